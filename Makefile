@@ -1,5 +1,5 @@
 # make            proves and builds the program
-# make test       runs the merge gate and the repository's own checks
+# make test       runs the merge gate: every proof, and the quick ones of the repository's own checks
 # make checks     runs the own checks of the pages and of the built program, with those that take minutes
 # make proofs     prints each clause of each public call, with the comment beside it
 # make trusted    prints the definitions that the contract of the program rests on, by chapter
@@ -18,8 +18,14 @@ PREFIX ?= /usr/local
 MINUTES ?= 1
 CRATES ?=
 
+program = crates/mud/out/mud
+
 .PHONY: build test checks proofs trusted limits memory plants fuzz bench hostile install deb clean
 build:
+	sh ./build
+
+# where there is a program 'make install' and 'make deb' take it as it is
+$(program):
 	sh ./build
 
 test:
@@ -31,6 +37,7 @@ checks: build
 	checks/definitions
 	checks/definitions --print >/dev/null
 	checks/proofs >/dev/null
+	bash checks/plants --texts
 	bash checks/examples
 	bash checks/faulty-runs
 	bash checks/sessions
@@ -78,9 +85,9 @@ bench: build
 hostile: build
 	bash bench/slowest-inputs
 
-install: build
+install: $(program)
 	install -d "$(DESTDIR)$(PREFIX)/bin"
-	install -m 755 crates/mud/out/mud "$(DESTDIR)$(PREFIX)/bin/mud"
+	install -m 755 $(program) "$(DESTDIR)$(PREFIX)/bin/mud"
 	install -d "$(DESTDIR)$(PREFIX)/share/man/man1"
 	install -m 644 man/mud.1 "$(DESTDIR)$(PREFIX)/share/man/man1/mud.1"
 	install -d "$(DESTDIR)$(PREFIX)/share/mud"
@@ -91,7 +98,7 @@ install: build
 	  chmod 644 "$(DESTDIR)$(PREFIX)/share/mud/$$unit"; \
 	done
 
-deb: build
+deb: $(program)
 	@sh packaging/deb
 
 clean:

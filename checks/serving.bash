@@ -1,4 +1,4 @@
-# Functions for the checks that run 'mud serve'; they read this file. Needs bash, awk, coreutils and
+# Functions for the checks of the built program; they read this file. Needs bash, awk, coreutils and
 # /proc. The program is "$program", a folder for files "$folder"; 'passed' and 'failed' count.
 
 # note WHAT WANTED GOT

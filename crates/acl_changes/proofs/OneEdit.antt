@@ -1,5 +1,5 @@
 -- The edit of an entry that has a key is the one that is asked for.
-use Rattle.std.proofs.Common.{◌≡◌, ℕ, List, [], ◌∷◌, ◌<◌, Option, Some, None, refl, sym, ap, ◌∙◌}
+use Rattle.std.proofs.Common.{◌≡◌, ℕ, List, [], ◌∷◌, Option, Some, None, refl, sym, ap, ◌∙◌}
 use Rattle.std.specs.Option.{option_map}
 use Rattle.base_rows.specs.Sortable.{row_at}
 use Rattle.mud_base.specs.declared.addr.Addr.{Addr}
@@ -18,9 +18,13 @@ use Rattle.acl_rows.specs.Rows.{Slots, row, held_by, entry_at, entry_expiry, exp
 use Rattle.acl_rows.proofs.Sound.{expiry_at-entry}
 use Rattle.acl_rows.proofs.AtSortKeys.{row_at-rows_of}
 use Rattle.acl_changes.specs.Touched.{row_key, key_expiry, changed_edits, with_edit, with_edits}
-use Rattle.acl_changes.specs.Change.{ChangeState, after, one_edit, more_edits, expiry_of_row}
+use Rattle.acl_changes.specs.Change.{ChangeState, after, more_edits, expiry_of_row}
 
 -- ---- One edit
+
+-- the edits with that of one more sort key
+unfoldable pub one_edit : ChangeState → RowKey → List (Edit Row) → List (Edit Row)
+one_edit c t edits = with_edit c.slots c.bindings c.slots (after c) t edits
 
 expiry_made : (owner : Owner) (side : Direction) (a : Addr) (n : ℕ) (o : Option ℕ) → expiry_of_row (option_map (row owner side a n) o) ≡ o
 unfolding expiry_of_row row

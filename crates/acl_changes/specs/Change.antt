@@ -14,7 +14,7 @@ use Rattle.acl_rows.specs.declared.row.Owner.TheVariants.{Url}
 use Rattle.acl_rows.specs.declared.row.Row.{Row}
 use Rattle.acl_rows.specs.declared.row.RowKey.{RowKey}
 use Rattle.acl_rows.specs.Rows.{Slots, rows_of}
-use Rattle.acl_changes.specs.Touched.{holder_touches, with_edit, with_edits}
+use Rattle.acl_changes.specs.Touched.{holder_touches, with_edits}
 
 pub record ChangeState : Type 0 where
   pub slots : Slots
@@ -35,10 +35,7 @@ pub record IsOver (slots : Slots) (bindings : List Binding) (rows : List Row) (g
 unfoldable pub after : ChangeState → List Binding
 after c = replaced c.gone c.come c.bindings
 
--- the edits with those of one more sort key, and of more sort keys
-unfoldable pub one_edit : ChangeState → RowKey → List (Edit Row) → List (Edit Row)
-one_edit c t edits = with_edit c.slots c.bindings c.slots (after c) t edits
-
+-- the edits with those of more sort keys
 unfoldable pub more_edits : ChangeState → List RowKey → List (Edit Row) → List (Edit Row)
 more_edits c ts edits = with_edits c.slots c.bindings c.slots (after c) ts edits
 

@@ -1,5 +1,5 @@
 //! Edits, and making them.
-ghost use Rattle.std.specs.Prelude.{◌≡◌, ◌+◌, ◌≤◌, length, take, drop, OnOk};
+ghost use Rattle.std.specs.Prelude.{◌≡◌, ◌+◌, ◌≤◌, length, take, drop, OnOk, OnErr};
 ghost use Rattle.base_rows.specs.Sortable.{index_in, set_row};
 ghost use Rattle.base_rows.specs.Edits.{edit, edit_sort_key, edit_made, edited, AreFound};
 
@@ -92,14 +92,15 @@ pub fn make_edits_from<R: Sortable + Drop, L: Ledger>(
 }
 
 /// Adds the edit of a row that comes or goes to those that are planned, in place of the one of its
-/// sort key.
+/// sort key. Without memory for it the edits stay.
 pub fn plan_edit<R: Sortable + Drop>(
     edits: &mut SortedRows<Edit<R>>,
     row: R,
     comes: bool,
     found: Result<usize, usize>,
 ) -> Result<(), Memory>
-    ensures { OnOk result (edits.new.rows ≡ set_row (edit_sort_key R.sort_key) (edit row comes found) edits.old.rows) }
+    ensures ok { OnOk result (edits.new.rows ≡ set_row (edit_sort_key R.sort_key) (edit row comes found) edits.old.rows) }
+    ensures err { OnErr result (edits.new.rows ≡ edits.old.rows) }
 {
     edits.reserve(1)?;
     edits.put(Edit { row, comes, found });

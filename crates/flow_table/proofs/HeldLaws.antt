@@ -4,13 +4,13 @@ use Rattle.std.specs.Prelude.{IsSome, option_map}
 use Rattle.std.specs.Option.{is_none}
 use Rattle.std.specs.BTreeMap.{is_at}
 use Rattle.std.proofs.lemmas.Bool.Decides.{nat_tests}
-use Rattle.table_model.specs.History.{Endpoint, Begun, last_moment, is_between, is_past, opens, resets, with_moment}
+use Rattle.table_model.specs.History.{Endpoint, Begun, last_packet_at, is_between, is_past, opens, resets, with_moment}
 use Rattle.table_model.specs.declared.segment.Segment.{Segment}
-use Rattle.flow_table.specs.Kept.{StandsFor, is_since, beginner_kept, kept_after, MayForget, HasNoted}
+use Rattle.flow_table.specs.Kept.{StandsFor, is_since, beginner_kept, kept_after}
 use Rattle.flow_table.specs.Keys.{Key, key_cmp, key_of}
 use Rattle.flow_table.specs.Held.{Held, with_newest, slot_at, filled, slot_first, held_at, held_between, flows_of, IsNoted, IsSound, HoldsAll, IsWritten, held_of}
 use Rattle.flow_table.proofs.KeyLaws.{at_same, at_itself, at_turned, between_at}
-use Rattle.flow_table.proofs.Histories.{nothing_stands, noted_stands}
+use Rattle.flow_table.proofs.Histories.{MayForget, HasNoted, nothing_stands, noted_stands}
 
 abbrev Slots : Type 0
 Slots = List (Key × Option Begun)
@@ -285,17 +285,17 @@ late_noted last since newest younger elder none k p v s late room n f e =
 -- ---- A packet noted, and the history with it
 
 -- where the table answered as the history does, and has noted this packet
-pub noted_holds : (history after : List Segment) (p : Segment) (before : Held) (now : Held) → HoldsAll history before → IsTrue (is_since (last_moment history) p.at) → IsSound now → HasNoted p (flows_of before) (flows_of now) → after ≡ history ++ p ∷ [] → HoldsAll after now
+pub noted_holds : (history after : List Segment) (p : Segment) (before : Held) (now : Held) → HoldsAll history before → IsTrue (is_since (last_packet_at history) p.at) → IsSound now → HasNoted p (flows_of before) (flows_of now) → after ≡ history ++ p ∷ [] → HoldsAll after now
 noted_holds history after p before now holds since sound noted e = record {
   sound = sound;
   stands = subst (λ (h : List Segment). StandsFor h (flows_of now)) (sym e) (noted_stands history p (flows_of before) (flows_of now) holds.stands (rw holds.stands.last since) noted);
 }
 
-pub last_since : (history : List Segment) (held : Held) (at : ℕ) → HoldsAll history held → IsTrue (is_since (last_moment history) at) → IsTrue (is_since held.last at)
+pub last_since : (history : List Segment) (held : Held) (at : ℕ) → HoldsAll history held → IsTrue (is_since (last_packet_at history) at) → IsTrue (is_since held.last at)
 unfolding flows_of
 last_since history held at holds since = subst (λ (last : Option ℕ). IsTrue (is_since last at)) (sym holds.stands.last) since
 
-pub since_by_last : (history : List Segment) (held : Held) (now : ℕ) → HoldsAll history held → is_since held.last now ≡ is_since (last_moment history) now
+pub since_by_last : (history : List Segment) (held : Held) (now : ℕ) → HoldsAll history held → is_since held.last now ≡ is_since (last_packet_at history) now
 unfolding flows_of
 since_by_last history held now holds = ap (λ last. is_since last now) holds.stands.last
 

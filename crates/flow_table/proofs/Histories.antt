@@ -1,20 +1,33 @@
 -- What is kept of two endpoints answers as the history does, and goes on with each packet.
-use Rattle.std.proofs.Common.{◌≡◌, ℕ, ◌-◌, Bool, true, false, ◌&&◌, ◌||◌, nat_le, IsTrue, List, [], ◌∷◌, ◌++◌, map, filter, Option, Some, None, inl, inr, if◌then◌else◌, refl, sym, ap, ◌∙◌, subst, arith}
+use Rattle.std.proofs.Common.{◌≡◌, ℕ, ◌-◌, ◌⊎◌, Bool, true, false, ◌&&◌, ◌||◌, nat_le, IsTrue, List, [], ◌∷◌, ◌++◌, map, filter, Option, Some, None, inl, inr, if◌then◌else◌, refl, sym, ap, ◌∙◌, subst, arith}
 use Rattle.std.specs.Prelude.{option_map}
 use Rattle.std.specs.List.{list_any}
 use Rattle.std.proofs.lemmas.Bool.Decides.{nat_tests}
 use Rattle.mud_base.specs.declared.packet.Fields.{Fields}
 use Rattle.mud_base.specs.declared.packet.Direction.{Direction}
-use Rattle.table_model.specs.History.{Endpoint, Begun, segment_of, is_between, between, opens, resets, beginner_of, side_of, begun_of, last_moment, is_forward, with_moment, begun_at, begun_between, is_past, MayKeep}
+use Rattle.table_model.specs.History.{Endpoint, Begun, segment_of, is_between, between, opens, resets, beginner_of, side_of, begun_of, last_packet_at, is_forward, with_moment, begun_at, begun_between, is_past, MayKeep}
 use Rattle.table_model.specs.declared.segment.Segment.{Segment}
 use Rattle.table_model.proofs.TypeFacts.{segment_at}
-use Rattle.flow_table.specs.Kept.{Flows, StandsFor, is_since, beginner_kept, kept_after, MayForget, HasNoted}
+use Rattle.flow_table.specs.Kept.{Flows, StandsFor, is_since, beginner_kept, kept_after}
 use Rattle.table_model.proofs.Parts.{moment_of, since_opened, is_unbroken, beginner_since}
+
+-- ---- One packet more
+
+-- it stays, or it is forgotten where it is past
+abbrev pub MayForget : ℕ → Option Begun → Option Begun → Type 0
+MayForget now None kept = kept ≡ None
+MayForget now (Some begun) kept = (kept ≡ Some begun) ⊎ ((kept ≡ None) × IsTrue (is_past (Some now) begun.1))
+
+-- the table with one packet more
+pub record HasNoted (p : Segment) (before : Flows) (after : Flows) : Type 0 where
+  pub last : after.last ≡ Some p.at
+  pub here : (a b : Endpoint) → is_between a b p ≡ true → after.kept a b ≡ kept_after p (before.kept a b)
+  pub others : (a b : Endpoint) → is_between a b p ≡ false → MayForget p.at (before.kept a b) (after.kept a b)
 
 -- ---- Lists with one packet more
 
-pub last_push : (xs : List Segment) (p : Segment) → last_moment (xs ++ p ∷ []) ≡ Some p.at
-unfolding last_moment
+pub last_push : (xs : List Segment) (p : Segment) → last_packet_at (xs ++ p ∷ []) ≡ Some p.at
+unfolding last_packet_at
 last_push [] p = refl
 last_push (q ∷ []) p = refl
 last_push (q ∷ (r ∷ rs)) p = last_push (r ∷ rs) p
@@ -31,8 +44,8 @@ and_right : (a b : Bool) → IsTrue (a && b) → IsTrue b
 and_right true b h = h
 and_right false b h = absurd (cc)
 
-pub forward_push : (xs : List Segment) (p : Segment) → IsTrue (is_forward xs) → IsTrue (is_since (last_moment xs) p.at) → IsTrue (is_forward (xs ++ p ∷ []))
-unfolding is_forward last_moment is_since
+pub forward_push : (xs : List Segment) (p : Segment) → IsTrue (is_forward xs) → IsTrue (is_since (last_packet_at xs) p.at) → IsTrue (is_forward (xs ++ p ∷ []))
+unfolding is_forward last_packet_at is_since
 forward_push [] p h i = refl
 forward_push (q ∷ []) p h i = and_both _ _ i refl
 forward_push (q ∷ (r ∷ rs)) p h i =
@@ -97,8 +110,8 @@ unbroken_push m [] n = by (nat_le (n - m) 7440)
     by false = refl
 unbroken_push m (k ∷ ns) n = ap (λ b. nat_le (k - m) 7440 && b) (unbroken_push k ns n) ∙ and_assoc (nat_le (k - m) 7440) (is_unbroken k ns) (nat_le (n - last_of k ns) 7440)
 
-last_from : (p : Segment) (ps : List Segment) → last_moment (p ∷ ps) ≡ Some (last_of p.at (map moment_of ps))
-unfolding last_moment last_of
+last_from : (p : Segment) (ps : List Segment) → last_packet_at (p ∷ ps) ≡ Some (last_of p.at (map moment_of ps))
+unfolding last_packet_at last_of
 last_from p [] = refl
 last_from p (q ∷ qs) = last_from q qs
 
@@ -124,19 +137,19 @@ kept_since p ps t m e =
     rw (now, before) (kept_by (list_any resets ps) (is_unbroken p.at moments) (nat_le (m - t) 7440) p.source t m refl)
 
 -- what was opened ends as the whole list does
-since_last : (xs : List Segment) (q : Segment) (qs : List Segment) → since_opened xs ≡ q ∷ qs → last_moment (q ∷ qs) ≡ last_moment xs
-unfolding last_moment
+since_last : (xs : List Segment) (q : Segment) (qs : List Segment) → since_opened xs ≡ q ∷ qs → last_packet_at (q ∷ qs) ≡ last_packet_at xs
+unfolding last_packet_at
 since_last [] q qs e = cc
 since_last (x ∷ []) q qs e = by (opens x) e
   where
-    by : (b : Bool) → (if b then x ∷ [] else []) ≡ q ∷ qs → last_moment (q ∷ qs) ≡ Some x.at
-    by true h = ap last_moment (sym h)
+    by : (b : Bool) → (if b then x ∷ [] else []) ≡ q ∷ qs → last_packet_at (q ∷ qs) ≡ Some x.at
+    by true h = ap last_packet_at (sym h)
     by false h = cc
 since_last (x ∷ (y ∷ ys)) q qs e = by (list_any opens (y ∷ ys)) (opens x) (since_last (y ∷ ys) q qs) e
   where
-    by : (a b : Bool) → (since_opened (y ∷ ys) ≡ q ∷ qs → last_moment (q ∷ qs) ≡ last_moment (y ∷ ys)) → (if a then since_opened (y ∷ ys) else (if b then x ∷ (y ∷ ys) else [])) ≡ q ∷ qs → last_moment (q ∷ qs) ≡ last_moment (y ∷ ys)
+    by : (a b : Bool) → (since_opened (y ∷ ys) ≡ q ∷ qs → last_packet_at (q ∷ qs) ≡ last_packet_at (y ∷ ys)) → (if a then since_opened (y ∷ ys) else (if b then x ∷ (y ∷ ys) else [])) ≡ q ∷ qs → last_packet_at (q ∷ qs) ≡ last_packet_at (y ∷ ys)
     by true b ih h = ih h
-    by false true ih h = ap last_moment (sym h)
+    by false true ih h = ap last_packet_at (sym h)
     by false false ih h = cc
 
 kept_unopened : (t m : ℕ) → beginner_since [] m ≡ beginner_kept (option_map (with_moment t) (beginner_since [] t)) m
@@ -146,12 +159,12 @@ kept_unopened t m = refl
 some_same : {a b : ℕ} → Some a ≡ Some b → a ≡ b
 some_same e = cc
 
-kept_opened : (s : List Segment) (t m : ℕ) → ((q : Segment) (qs : List Segment) → s ≡ q ∷ qs → last_moment (q ∷ qs) ≡ Some t) → beginner_since s m ≡ beginner_kept (option_map (with_moment t) (beginner_since s t)) m
+kept_opened : (s : List Segment) (t m : ℕ) → ((q : Segment) (qs : List Segment) → s ≡ q ∷ qs → last_packet_at (q ∷ qs) ≡ Some t) → beginner_since s m ≡ beginner_kept (option_map (with_moment t) (beginner_since s t)) m
 kept_opened [] t m h = kept_unopened t m
 kept_opened (q ∷ qs) t m h = kept_since q qs t m (some_same (sym (h q qs refl) ∙ last_from q qs))
 
-none_opened : (xs : List Segment) → last_moment xs ≡ None → xs ≡ []
-unfolding last_moment
+none_opened : (xs : List Segment) → last_packet_at xs ≡ None → xs ≡ []
+unfolding last_packet_at
 none_opened [] e = refl
 none_opened (x ∷ []) e = cc
 none_opened (x ∷ (y ∷ ys)) e = let h = none_opened (y ∷ ys) e in cc
@@ -160,16 +173,16 @@ kept_nothing : (ys : List Segment) (m : ℕ) → ys ≡ [] → (b : Option Begun
 unfolding beginner_kept
 kept_nothing ys m h b i = rw (h, i) refl
 
-kept_in : (xs : List Segment) (m : ℕ) (t : Option ℕ) → last_moment xs ≡ t → (begun : Option Begun) → begun ≡ elim t as (λ _. Option Begun) [ None ↦ None | Some k ↦ option_map (with_moment k) (beginner_since (since_opened xs) k) ] → beginner_since (since_opened xs) m ≡ beginner_kept begun m
+kept_in : (xs : List Segment) (m : ℕ) (t : Option ℕ) → last_packet_at xs ≡ t → (begun : Option Begun) → begun ≡ elim t as (λ _. Option Begun) [ None ↦ None | Some k ↦ option_map (with_moment k) (beginner_since (since_opened xs) k) ] → beginner_since (since_opened xs) m ≡ beginner_kept begun m
 kept_in xs m None e begun d = kept_nothing xs m (none_opened xs e) begun d
 kept_in xs m (Some t) e begun d = rw d (kept_opened (since_opened xs) t m (λ q qs h. since_last xs q qs h ∙ e))
 
 -- who began it at a later moment, by what the history says at the last packet
 pub begun_later : (h : List Segment) (a b : Endpoint) (m : ℕ) → beginner_of h a b m ≡ beginner_kept (begun_between h a b) m
 unfolding beginner_of begun_between begun_at
-begun_later h a b m = by (last_moment (between a b h)) refl
+begun_later h a b m = by (last_packet_at (between a b h)) refl
   where
-    by : (t : Option ℕ) → last_moment (between a b h) ≡ t → beginner_of h a b m ≡ beginner_kept (begun_between h a b) m
+    by : (t : Option ℕ) → last_packet_at (between a b h) ≡ t → beginner_of h a b m ≡ beginner_kept (begun_between h a b) m
     by None e = kept_in (between a b h) m None e _ (rw e refl)
     by (Some t) e = kept_in (between a b h) m (Some t) e _ (rw e refl)
 
@@ -195,7 +208,7 @@ kept_enough last (Some begun) kept m h (inr (e, p)) = past_kept last begun m h p
 
 pub beginner_found : (h : List Segment) (flows : Flows) (a b : Endpoint) (m : ℕ) → StandsFor h flows → IsTrue (is_since flows.last m) → beginner_of h a b m ≡ beginner_kept (flows.kept a b) m
 beginner_found h flows a b m s i =
-    begun_later h a b m ∙ kept_enough (last_moment h) (begun_between h a b) (flows.kept a b) m (rw (← s.last) i) (s.kept a b)
+    begun_later h a b m ∙ kept_enough (last_packet_at h) (begun_between h a b) (flows.kept a b) m (rw (← s.last) i) (s.kept a b)
 
 pub at_planned : (fields : Fields) (now : ℕ) (q : Segment) → segment_of fields now ≡ Some q → q.at ≡ now
 unfolding segment_of
@@ -269,13 +282,13 @@ begun_others : (h : List Segment) (p : Segment) (a b : Endpoint) → is_between 
 unfolding begun_between
 begun_others h p a b e =
     let same : between a b (h ++ p ∷ []) ≡ between a b h = between_push a b h p ∙ ap (λ (c : Bool). between a b h ++ (if c then p ∷ [] else [])) e ∙ append_nothing (between a b h) in
-    ap (λ xs. begun_at (h ++ p ∷ []) a b (last_moment xs)) same ∙ same_between h (h ++ p ∷ []) a b (last_moment (between a b h)) same
+    ap (λ xs. begun_at (h ++ p ∷ []) a b (last_packet_at xs)) same ∙ same_between h (h ++ p ∷ []) a b (last_packet_at (between a b h)) same
 
 begun_here : (h : List Segment) (p : Segment) (a b : Endpoint) → is_between a b p ≡ true → begun_between (h ++ p ∷ []) a b ≡ (if opens p then Some (p.source, p.at) else (if resets p then None else option_map (with_moment p.at) (beginner_of h a b p.at)))
 unfolding begun_between begun_at beginner_of
 begun_here h p a b e =
     let more : between a b (h ++ p ∷ []) ≡ between a b h ++ p ∷ [] = between_push a b h p ∙ ap (λ (c : Bool). between a b h ++ (if c then p ∷ [] else [])) e in
-    ap (λ xs. begun_at (h ++ p ∷ []) a b (last_moment xs)) more ∙ ap (begun_at (h ++ p ∷ []) a b) (last_push (between a b h) p) ∙ ap (λ xs. option_map (with_moment p.at) (beginner_since (since_opened xs) p.at)) more ∙ begins_pushed (between a b h) p
+    ap (λ xs. begun_at (h ++ p ∷ []) a b (last_packet_at xs)) more ∙ ap (begun_at (h ++ p ∷ []) a b) (last_push (between a b h) p) ∙ ap (λ xs. option_map (with_moment p.at) (beginner_since (since_opened xs) p.at)) more ∙ begins_pushed (between a b h) p
 
 kept_here : (h : List Segment) (flows : Flows) (p : Segment) (a b : Endpoint) → StandsFor h flows → IsTrue (is_since flows.last p.at) → is_between a b p ≡ true → begun_between (h ++ p ∷ []) a b ≡ kept_after p (flows.kept a b)
 unfolding kept_after
@@ -306,11 +319,11 @@ noted_stands h p before after s i n = record {
   where
     by : (a b : Endpoint) (c : Bool) → is_between a b p ≡ c → MayKeep (Some p.at) (begun_between (h ++ p ∷ []) a b) (after.kept a b)
     by a b true e = keep_same (Some p.at) _ _ (n.here a b e ∙ sym (kept_here h before p a b s i e))
-    by a b false e = rw (begun_others h p a b e) (keep_others (last_moment h) p.at (begun_between h a b) (before.kept a b) (after.kept a b) (rw (← s.last) i) (s.kept a b) (n.others a b e))
+    by a b false e = rw (begun_others h p a b e) (keep_others (last_packet_at h) p.at (begun_between h a b) (before.kept a b) (after.kept a b) (rw (← s.last) i) (s.kept a b) (n.others a b e))
 
 -- The new table stands for the empty history.
 pub nothing_stands : (flows : Flows) → flows.last ≡ None → ((a b : Endpoint) → flows.kept a b ≡ None) → StandsFor [] flows
-unfolding is_forward last_moment begun_between begun_at between
+unfolding is_forward last_packet_at begun_between begun_at between
 nothing_stands flows e h = record { forward = refl; last = e; kept = λ a b. h a b }
 
 -- ---- A look-up answers as the history does, by cases on the packet
@@ -323,7 +336,7 @@ pub begun_opens : (h : List Segment) (side : Direction) (fields : Fields) (now :
 unfolding begun_of
 begun_opens h side fields now p e f = rw (e, f) refl
 
-pub begun_other : (h : List Segment) (flows : Flows) (side : Direction) (fields : Fields) (now : ℕ) (p : Segment) → StandsFor h flows → IsTrue (is_since (last_moment h) now) → segment_of fields now ≡ Some p → opens p ≡ false
+pub begun_other : (h : List Segment) (flows : Flows) (side : Direction) (fields : Fields) (now : ℕ) (p : Segment) → StandsFor h flows → IsTrue (is_since (last_packet_at h) now) → segment_of fields now ≡ Some p → opens p ≡ false
     → side_of side p (beginner_kept (flows.kept p.source p.destination) p.at) ≡ begun_of h side fields now
 unfolding begun_of
 begun_other h flows side fields now p s since e f =

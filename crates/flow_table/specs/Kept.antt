@@ -1,7 +1,7 @@
 -- What a table of connections keeps of two endpoints, and what it keeps after one packet more.
-use Rattle.std.specs.Prelude.{◌≡◌, ℕ, ◌-◌, true, false, nat_le, IsTrue, option_map, Option, Some, None, ◌⊎◌, if◌then◌else◌}
+use Rattle.std.specs.Prelude.{ℕ, ◌-◌, nat_le, option_map, Option, Some, None, if◌then◌else◌}
 use Rattle.table_model.specs.Limits.{most}
-use Rattle.table_model.specs.History.{Endpoint, Begun, is_between, opens, resets, with_moment, is_past}
+use Rattle.table_model.specs.History.{Endpoint, Begun, opens, resets, with_moment}
 use Rattle.table_model.specs.declared.segment.Segment.{Segment}
 pub use Rattle.table_model.specs.History.{Flows, StandsFor}
 unfoldable pub use Rattle.flow_table.specs.Noted.{is_since}
@@ -16,14 +16,3 @@ unfoldable pub kept_after : Segment → Option Begun → Option Begun
 kept_after p kept =
     if opens p then Some (p.source, p.at)
     else (if resets p then None else option_map (with_moment p.at) (beginner_kept kept p.at))
-
--- it stays, or it is forgotten where it is past
-abbrev pub MayForget : ℕ → Option Begun → Option Begun → Type 0
-MayForget now None kept = kept ≡ None
-MayForget now (Some begun) kept = (kept ≡ Some begun) ⊎ ((kept ≡ None) × IsTrue (is_past (Some now) begun.1))
-
--- the table with one packet more
-pub record HasNoted (p : Segment) (before : Flows) (after : Flows) : Type 0 where
-  pub last : after.last ≡ Some p.at
-  pub here : (a b : Endpoint) → is_between a b p ≡ true → after.kept a b ≡ kept_after p (before.kept a b)
-  pub others : (a b : Endpoint) → is_between a b p ≡ false → MayForget p.at (before.kept a b) (after.kept a b)

@@ -1,6 +1,6 @@
 -- What contracts see of a table of connections: the packets that were noted, and what is planned of one more.
 use Rattle.std.specs.Prelude.{ℕ, Bool, true, nat_le, IsTrue, List, Option, Some, None}
-use Rattle.table_model.specs.History.{last_moment}
+use Rattle.table_model.specs.History.{last_packet_at}
 use Rattle.table_model.specs.declared.segment.Segment.{Segment}
 use Rattle.flow_table.specs.declared.table.FlowPlan.{FlowPlan}
 
@@ -16,7 +16,7 @@ is_since (Some last) now = nat_le last now
 
 -- the moment isn't before that of the last packet
 abbrev pub follows : List Segment → ℕ → Bool
-follows history now = is_since (last_moment history) now
+follows history now = is_since (last_packet_at history) now
 
 -- ---- The packet that a plan is for, and when it can be noted
 

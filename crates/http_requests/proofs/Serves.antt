@@ -11,7 +11,8 @@ use Rattle.http_requests.specs.Framing.{leave_of}
 use Rattle.http_requests.specs.Requests.{Ending, ended, closed, spent, stop_after, most_requests}
 use Rattle.http_requests.specs.Steps.{CameWhole, CameEnd, CameFault}
 use Rattle.http_requests.specs.Steps as steps
-use Rattle.http_requests.specs.Serving.{SoFar, Served, FailedPiece}
+use Rattle.http_requests.specs.Serving.{Served, FailedPiece}
+use Rattle.http_requests.proofs.Serving.{SoFar}
 use Rattle.http_requests.proofs.Serving as serving
 use Rattle.http_requests.specs.declared.end.ConnectionEnd.TheVariants.{Ended, Closed, Broken, Spent, ReadFailed, WriteFailed}
 use Rattle.http_requests.specs.Asked.{Asked, CarriedOut, asked}

@@ -10,7 +10,7 @@ use Rattle.http_requests.specs.declared.shape.RequestShape.{RequestShape}
 use Rattle.http_requests.specs.Framing.{leave_of}
 use Rattle.http_requests.specs.Requests.{Request, Begins, Ending, ended, broken, GoOn, stop_after, most_requests}
 use Rattle.http_requests.specs.Steps.{Came, CameWhole, CameEnd, CameFault, ReadFailed, LeaveFailed}
-use Rattle.http_requests.specs.Serving.{Exchanged, SoFar, Served, ServedFault, ServedTaken, FailedPiece, FailedAnswer}
+use Rattle.http_requests.specs.Serving.{Exchanged, Served, ServedFault, ServedTaken, FailedPiece, FailedAnswer}
 use Rattle.http_requests.proofs.Heads.{head_append}
 use Rattle.http_requests.proofs.Runs.{begins_append, joined, goes_append, goes_on}
 use Rattle.http_requests.proofs.Coming.{came_written}
@@ -18,6 +18,11 @@ use Rattle.http_requests.proofs.Coming.{came_written}
 -- the requests and answers of a run
 abbrev Run : Type 1
 Run = List Request → List ℕ → Type 0
+
+-- What was taken of the connection is requests that were answered, and then the buffer. So many more requests are answered.
+pub record SoFar (A : List Request → List ℕ → Type 0) (from : MomentFrom) (more : ℕ) (pending : List ℕ) (old new : DoorState) (buffer : List ℕ) : Type 0 where
+  pub done : Exchanged A pending old new
+  pub goes_on : GoOn from most_requests done.taken done.requests more buffer
 
 -- the same exchange, where something else is so of what was answered
 abbrev pub exchanged_as : (A B : Run) (last : List ℕ) (s t : DoorState) → (x : Exchanged A last s t) → B x.requests x.answers → Exchanged B last s t

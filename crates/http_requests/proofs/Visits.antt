@@ -1,5 +1,5 @@
 -- Connections served one after the other, at each place of the loop that serves them.
-use Rattle.std.proofs.Common.{◌≡◌, ℕ, ◌+◌, Bool, true, false, cond, List, [], ◌∷◌, ◌++◌, length, map, refl, inl, inr, sym, ap, ap₂, ◌∙◌, subst, arith, append_assoc, length-append}
+use Rattle.std.proofs.Common.{◌≡◌, ℕ, zero, suc, ◌+◌, ◌-◌, ◌^◌, min, IsTrue, Bool, true, false, cond, List, [], ◌∷◌, ◌++◌, length, map, refl, inl, inr, sym, ap, ap₂, ◌∙◌, subst, arith, append_assoc, length-append}
 use Rattle.std.specs.List.{count_by}
 use Rattle.std.proofs.lemmas.List.{map-append}
 use Rattle.std.proofs.lemmas.List.Sums.{sum_by-append}
@@ -15,33 +15,36 @@ use Rattle.http_requests.specs.declared.end.ConnectionEnd.{ConnectionEnd}
 use Rattle.http_requests.specs.declared.end.ConnectionEnd.TheVariants.{Ended, Closed, Broken, Spent, ReadFailed, WriteFailed}
 use Rattle.http_requests.specs.Asked.{Asked}
 use Rattle.http_requests.specs.Ends.{ServedBy, IsServed, is_read_failed, is_write_failed}
-use Rattle.http_requests.specs.Visits.{Visit, alone, CountsOf, AreServed, Visited}
+use Rattle.http_requests.specs.Visits.{Visit, alone, count_behind, AreServed, Visited}
 use Rattle.http_requests.proofs.Pieces.{after_of, before_of, failed_to_read, failed_to_write}
 use Rattle.mud_world.proofs.Parts.{connection_here}
 
 -- ---- Counts
 
-counts_next : (failures : ℕ) (failed : Bool) (a b c : ℕ) → CountsOf failures a b → Counts failed b c → CountsOf (failures + cond failed 1 0) a c
-counts_next failures true a b c p q = record {
-  later = omega (arith, p.later, q.later);
-  rose = let rose = q.rose refl in omega (arith, p.rose, p.later);
-  steady = λ none. absurd (omega arith);
-}
-counts_next failures false a b c p q =
-    let same = q.steady refl in
-    record {
-      later = omega (arith, p.later, same);
-      rose = omega (arith, p.rose, same);
-      steady = λ none. same ∙ p.steady (omega (arith, none));
-    }
+behind_last : (failures a b c : ℕ) → b ≡ count_behind failures a → c ≡ min (b + 1) (2 ^ 64 - 1) → c ≡ count_behind (failures + 1) a
+behind_last zero a b c before last =
+    let same : b ≡ a = before in
+    let risen : c ≡ min (a + 1) (2 ^ 64 - 1) = omega (arith, same, last) in
+    risen
+behind_last (suc failures) a b c before last =
+    let so_far : b ≡ min (a + suc failures) (2 ^ 64 - 1) = before in
+    let risen : c ≡ min (a + suc (suc failures)) (2 ^ 64 - 1) = omega (arith, so_far, last) in
+    let one_more : suc (suc failures) ≡ suc failures + 1 = omega arith in
+    risen ∙ ap (λ n. count_behind n a) one_more
+
+counts_next : (failures : ℕ) (failed : Bool) (a b c : ℕ) → b ≡ count_behind failures a → Counts failed b c → (IsTrue failed → c ≡ min (b + 1) (2 ^ 64 - 1)) → c ≡ count_behind (failures + cond failed 1 0) a
+counts_next failures true a b c before counts last = behind_last failures a b c before (last refl)
+counts_next failures false a b c before counts last = counts.steady refl ∙ before ∙ ap (λ n. count_behind n a) (omega arith)
 
 counted : (test : Visit → Bool) (visits : List Visit) (v : Visit) → count_by test (visits ++ v ∷ []) ≡ count_by test visits + cond (test v) 1 0
 counted test visits v = sum_by-append (λ w. cond (test w) 1 0) visits (v ∷ []) ∙ ap (λ n. count_by test visits + n) (omega arith)
 
-pub counts_more : (test : Visit → Bool) (visits : List Visit) (v : Visit) (failed : Bool) (a b b' c : ℕ) → test v ≡ failed → b' ≡ b → CountsOf (count_by test visits) a b → Counts failed b' c → CountsOf (count_by test (visits ++ v ∷ [])) a c
-counts_more test visits v failed a b b' c is same p q =
-    subst (λ n. CountsOf n a c) (sym (counted test visits v))
-    (counts_next (count_by test visits) (test v) a b c p (subst (λ f. Counts f b c) (sym is) (subst (λ m. Counts failed m c) same q)))
+pub counts_more : (test : Visit → Bool) (visits : List Visit) (v : Visit) (failed : Bool) (a b b' c : ℕ) → test v ≡ failed → b' ≡ b → b ≡ count_behind (count_by test visits) a → Counts failed b' c
+    → (IsTrue failed → c ≡ min (b' + 1) (2 ^ 64 - 1)) → c ≡ count_behind (count_by test (visits ++ v ∷ [])) a
+counts_more test visits v failed a b b' c is same before counts last =
+    counts_next (count_by test visits) failed a b' c (same ∙ before) counts last
+    ∙ ap (λ f. count_behind (count_by test visits + cond f 1 0) a) (sym is)
+    ∙ ap (λ n. count_behind n a) (sym (counted test visits v))
 
 -- ---- A connection by itself
 
@@ -154,8 +157,8 @@ module _ {S : Type 0} (may : S → Asked → List ℕ → S → Type 0) (refusal
     pub visits : List Visit
     pub visited : Visited may refusal from keeps s visits old.state new.state
     pub counted : length visits ≡ count
-    pub reads : CountsOf (count_by failed_to_read visits) old.reads new.reads
-    pub writes : CountsOf (count_by failed_to_write visits) old.writes new.writes
+    pub reads : new.reads ≡ count_behind (count_by failed_to_read visits) old.reads
+    pub writes : new.writes ≡ count_behind (count_by failed_to_write visits) old.writes
 
   pub rounds_more : (keeps keeps' : S → Type 0) (end : ConnectionEnd) (count : ℕ) (s : S) (old x y z : DoorView) → Rounds keeps count s old x
       → has_more x.state.ahead ≡ true → y.state ≡ gone_on x.state x.state.ahead → ((at : S) → keeps at → IsServed may refusal from keeps' end at y z)
@@ -171,6 +174,6 @@ module _ {S : Type 0} (may : S → Asked → List ℕ → S → Type 0) (refusal
             visits = p.visits ++ v ∷ [];
             visited = visited_one keeps keeps' end s p.visits old.state x.state y.state z.state c cs p.visited comes (went ∙ ap (gone_on x.state) comes) served.next served.kept served.served;
             counted = omega (arith, p.counted, length-append p.visits (v ∷ []));
-            reads = counts_more failed_to_read p.visits v (is_read_failed end) old.reads x.reads y.reads z.reads refl same_reads p.reads calls.reads;
-            writes = counts_more failed_to_write p.visits v (is_write_failed end) old.writes x.writes y.writes z.writes refl same_writes p.writes calls.writes;
+            reads = counts_more failed_to_read p.visits v (is_read_failed end) old.reads x.reads y.reads z.reads refl same_reads p.reads calls.reads (λ failed. (calls.read_stop failed).once);
+            writes = counts_more failed_to_write p.visits v (is_write_failed end) old.writes x.writes y.writes z.writes refl same_writes p.writes calls.writes (λ failed. (calls.write_stop failed).once);
           }

@@ -19,11 +19,6 @@ pub record Exchanged (A : List Request → List ℕ → Type 0) (last : List ℕ
   pub took : old.left ≡ taken ++ new.left
   pub state : new ≡ put_out (answers ++ last) (with_left new.left old)
 
--- What was taken of the connection is requests that were answered, and then the buffer. So many more requests are answered.
-pub record SoFar (A : List Request → List ℕ → Type 0) (from : MomentFrom) (more : ℕ) (pending : List ℕ) (old new : DoorState) (buffer : List ℕ) : Type 0 where
-  pub done : Exchanged A pending old new
-  pub goes_on : GoOn from most_requests done.taken done.requests more buffer
-
 -- The octets that were left of the connection are these requests, which were answered, and then `last` was written.
 pub record Served (A : List Request → List ℕ → Type 0) (from : MomentFrom) (end : Ending) (last : List ℕ) (old new : DoorState) : Type 0 where
   pub done : Exchanged A last old new

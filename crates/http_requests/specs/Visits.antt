@@ -1,5 +1,5 @@
 -- Connections that were served one after the other.
-use Rattle.std.specs.Prelude.{◌≡◌, ℕ, ◌<◌, ◌≤◌, min, Bool, true, false, IsTrue, List, [], ◌∷◌, ◌++◌, length, map, count_by, None}
+use Rattle.std.specs.Prelude.{◌≡◌, ℕ, ◌+◌, ◌-◌, ◌^◌, ◌<◌, ◌≤◌, min, zero, suc, Bool, true, false, IsTrue, List, [], ◌∷◌, ◌++◌, length, map, count_by, None}
 use Rattle.mud_world.specs.Causes.{Counts, RoseBy, StopsAtFailure}
 use Rattle.mud_world.specs.Door.{Connection, DoorState, here}
 use Rattle.mud_world.specs.View.{DoorView}
@@ -25,6 +25,11 @@ pub record CountsOf (failures before now : ℕ) : Type 0 where
   pub later : before ≤ now
   pub rose : RoseBy failures before now
   pub steady : failures ≡ 0 → now ≡ before
+
+-- what calls, of which so many failed, make of the count of their failures: it rises by one for each, and stops at its last value
+abbrev pub count_behind : ℕ → ℕ → ℕ
+count_behind zero before = before
+count_behind (suc failures) before = min (before + suc failures) (2 ^ 64 - 1)
 
 -- What serving connection after connection makes of the counts of a door's failures: one failure to go on ends it, as the last call
 -- of the door, and the counts of failed reads and writes never fall.
@@ -62,5 +67,5 @@ module _ {S : Type 0} (may : S → Asked → List ℕ → S → Type 0) (refusal
     pub visits : List Visit
     pub visited : Visited may refusal from keeps s visits old.state new.state
     pub enough : AreEnough failed count visits old.state
-    pub reads : CountsOf (count_by (λ (v : Visit). is_read_failed v.end) visits) old.reads new.reads
-    pub writes : CountsOf (count_by (λ (v : Visit). is_write_failed v.end) visits) old.writes new.writes
+    pub reads : new.reads ≡ count_behind (count_by (λ (v : Visit). is_read_failed v.end) visits) old.reads
+    pub writes : new.writes ≡ count_behind (count_by (λ (v : Visit). is_write_failed v.end) visits) old.writes

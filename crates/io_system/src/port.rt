@@ -1,10 +1,9 @@
 //! A port of this machine on which clients are awaited, and the client that is served.
-ghost use Rattle.std.specs.Prelude.{◌≡◌, true, false, None, Ok, IfOk, OnOk, OnErr};
-ghost use Rattle.std.specs.Option.{ForSome};
+ghost use Rattle.std.specs.Prelude.{◌≡◌, true, false, None, Some, Ok, IfOk, IfSome, OnOk, OnErr};
 ghost use Rattle.std.specs.Net.Socket.{socket_ip, socket_port};
 ghost use Rattle.std.specs.Io.{ReadsAtMost, WritesAtMost};
 ghost use Rattle.std.specs.Io.KnownBytes.{ReadConsumes, WriteAppends};
-ghost use Rattle.io_system.specs.Ports.{client_octets, is_served, localhost, octets_of};
+ghost use Rattle.io_system.specs.Ports.{client_octets, is_served, localhost, octets_of, since_of};
 
 use crate::client::{Client, LONGEST_WAIT};
 use std::io;
@@ -65,7 +64,7 @@ impl<N: Net> Port<N> {
     pub(crate) fn go_on(&mut self) -> io::Result<()>
         ensures ok { OnOk result (is_served self.new ≡ true) }
         ensures err { OnErr result (is_served self.new ≡ false) }
-        ensures fresh { OnOk result (ForSome self.new.client (λ client. client.since ≡ None)) }
+        ensures fresh { since_of self.new ≡ None }
         ensures number { self.new.number ≡ self.old.number }
     {
         self.client = None;
@@ -73,12 +72,13 @@ impl<N: Net> Port<N> {
         Ok(())
     }
 
-    /// Reads once of the client, whose time goes by this clock. Where no client is served, it
-    /// answers 0.
+    /// Reads once of the client, whose time goes by this clock and runs on where it had begun. Where
+    /// no client is served, it answers 0.
     pub fn read<C: Clock>(&mut self, clock: &C, buf: &mut [u8]) -> io::Result<usize>
         ensures within { ReadsAtMost result buf.new }
         ensures octets { ReadConsumes (client_octets N.Stream.remaining self.old.client) (client_octets N.Stream.remaining self.new.client) result buf.new }
         ensures nowhere { is_served self.old ≡ false → result ≡ Ok 0 }
+        ensures since { IfSome (since_of self.old) (λ since. since_of self.new ≡ Some since) }
         ensures served { is_served self.new ≡ is_served self.old }
         ensures number { self.new.number ≡ self.old.number }
     {
@@ -88,11 +88,14 @@ impl<N: Net> Port<N> {
         }
     }
 
-    /// Writes once to the client. Where no client is served, it answers 0.
+    /// Writes once to the client. Where octets were taken, its time begins with the next read. Where no
+    /// client is served, it answers 0.
     pub fn write(&mut self, piece: &[u8]) -> io::Result<usize>
         ensures within { WritesAtMost result piece.now }
         ensures octets { WriteAppends (client_octets N.Stream.contents self.old.client) (client_octets N.Stream.contents self.new.client) result piece.now }
         ensures nowhere { is_served self.old ≡ false → result ≡ Ok 0 }
+        ensures since { OnOk result (since_of self.new ≡ None) }
+        ensures kept { OnErr result (since_of self.new ≡ since_of self.old) }
         ensures served { is_served self.new ≡ is_served self.old }
         ensures number { self.new.number ≡ self.old.number }
     {

@@ -2,6 +2,10 @@
 //! over them.
 #![tactic(auto)]
 
+ghost use Rattle.std.specs.Prelude.{◌≡◌, IfSome};
+ghost use Rattle.run_words.specs.Operands.{folder_in, store_in};
+ghost use Rattle.run_words.specs.Words.{command_in, words_of};
+
 use io_system::{Call, Failure, RealClock, RealDoor, RealSpool};
 use item_codec::kinds::CLASS_KIND;
 use keep_sqlite::PathKeeper;
@@ -57,7 +61,12 @@ fn words(rt: &HostRuntime) -> io::Result<Vec<String>> {
 
 /// The words that name the store and the folder of a command. A command without a store keeps
 /// nothing, and one without a folder lists none.
-fn operands(alloc: Global, words: &[String]) -> (&str, &str) {
+fn operands(alloc: Global, words: &[String]) -> (&str, &str)
+    ensures store { IfSome (command_in (words_of words.now)) (λ command.
+        IfSome (store_in command (words_of words.now)) (λ word. result.0.now ≡ word)) }
+    ensures folder { IfSome (command_in (words_of words.now)) (λ command.
+        IfSome (folder_in command (words_of words.now)) (λ word. result.1.now ≡ word)) }
+{
     let Some(command) = command_of(alloc, words) else {
         return (IN_MEMORY, "");
     };

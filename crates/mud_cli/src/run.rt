@@ -1,6 +1,6 @@
 //! The top call of the program.
 ghost use Rattle.std.specs.Prelude.{◌≡◌, ◌↔◌, None, Some};
-ghost use Rattle.run_common.specs.Status.{IsNot, status_number};
+ghost use Rattle.run_common.specs.Status.{Is, IsNot, status_number};
 ghost use Rattle.run_common.specs.declared.status.Status.TheVariants.{Unlisted};
 ghost use Rattle.run_words.specs.Words.{command_in, words_of};
 ghost use Rattle.mud_cli.specs.Runs.{AsTold, Does, LeavesAlone, world};
@@ -76,8 +76,8 @@ pub fn mud_main<D: Door, P: Spool, C: Clock>(
     clock: &mut C,
 ) -> (u8, Box<dyn Keeper>)
     // Of every line of words: 2 says that it isn't listed, and then nothing is touched.
-    ensures words { (result.0 ≡ 2) ↔ (command_in (words_of words.now) ≡ None) }
-    ensures untouched { result.0 ≡ 2 → (result.1 ≡ keeper)
+    ensures words { Is Unlisted result.0 ↔ (command_in (words_of words.now) ≡ None) }
+    ensures untouched { Is Unlisted result.0 → (result.1 ≡ keeper)
         × (world door.new spool.new clock.new ≡ world door.old spool.old clock.old) }
     // A listed command does what its record says, and leaves alone what isn't its own.
     ensures does { AsTold (Does Keeper-dyn ⟦<D as Door>⟧ ⟦<P as Spool>⟧ ⟦<C as Clock>⟧ keeper result.1

@@ -9,7 +9,7 @@ use Rattle.acl_compile.specs.Compiled.{CompiledState}
 use Rattle.mud_base.specs.declared.prefix.Prefix.{Prefix}
 use Rattle.table_model.specs.declared.thing.Thing.{Thing}
 use Rattle.table_model.specs.declared.segment.Segment.{Segment}
-use Rattle.table_model.specs.History.{last_moment}
+use Rattle.table_model.specs.History.{last_packet_at}
 use Rattle.flow_table.specs.Noted.{Noted, is_since, follows}
 use Rattle.mud_base.specs.declared.packet.Direction.{Direction}
 use Rattle.mud_base.specs.declared.packet.Fields.{Fields}
@@ -40,11 +40,11 @@ use Rattle.desk_model.proofs.Parts.{answered, judged}
 
 pub timely_later : (flows : Noted) (m n : ℕ) → IsTimely flows m → m ≤ n → IsTimely flows n
 unfolding IsTimely
-timely_later flows m n timely le = since_later (last_moment flows.history) m n timely le
+timely_later flows m n timely le = since_later (last_packet_at flows.history) m n timely le
 
 pub timely_since : (flows : Noted) (m n : ℕ) → IsTimely flows m → m ≤ n → IsTrue (follows flows.history n)
 unfolding IsTimely
-timely_since flows m n timely le = since_later (last_moment flows.history) m n timely le
+timely_since flows m n timely le = since_later (last_packet_at flows.history) m n timely le
 
 pub timely_at : (flows : Noted) (n : ℕ) → IsTrue (follows flows.history n) → IsTimely flows n
 unfolding IsTimely
@@ -55,7 +55,7 @@ unfolding IsTimely
 timely_same before after m same timely = subst (λ (h : List Segment). IsTrue (follows h m)) (sym same) timely
 
 pub timely_new : (flows : Noted) (m : ℕ) → flows.history ≡ [] → IsTimely flows m
-unfolding IsTimely last_moment is_since
+unfolding IsTimely last_packet_at is_since
 timely_new flows m none = subst (λ (h : List Segment). IsTrue (follows h m)) (sym none) refl
 
 pub max_first : (m n k : ℕ) → k ≡ max m n → m ≤ k

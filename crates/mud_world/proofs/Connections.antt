@@ -2,10 +2,10 @@
 use Rattle.std.proofs.Common.{◌≡◌, ℕ, zero, suc, append_assoc, ◌+◌, ◌<◌, Bool, true, false, cond, ltb, Option, Some, List, [], ◌∷◌, ◌++◌, length, take, drop, map, get_or, set, replicate, refl, inl, inr, sym, ap, ap₂, ◌∙◌, arith, length-set}
 use Rattle.std.proofs.lemmas.List.{append-nil, drop_more, drop_all, take_more, take-append-drop, take-set, drop-set-lt, get_or-set_same}
 use Rattle.std.proofs.lemmas.Bool.{cases_lt, false≢true, le-ltb, lt-ltb}
-use Rattle.mud_world.specs.Door.{Connection, DoorState, connections, departed, gone_on, bound_anew, has_more, with_here}
+use Rattle.mud_world.specs.Door.{Connection, DoorState, connections, departed, gone_on, bound_anew, has_more}
 use Rattle.mud_world.specs.Wire.{WireState, connection_of, fresh}
 use Rattle.mud_world.specs.MemoryConnections.{connections_of, entered, new_connection, room_of, state_at}
-use Rattle.mud_world.proofs.Parts.{connection_here}
+use Rattle.mud_world.proofs.Parts.{connection_here, with_here}
 
 pub length-connections_of : (inputs : List (List (List ℕ))) (wires : List WireState) → length wires ≡ length inputs → length (connections_of inputs wires) ≡ length wires
 length-connections_of [] [] e = refl

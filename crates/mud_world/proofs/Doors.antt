@@ -1,8 +1,9 @@
 -- Laws of what is read of a door and written to it.
 use Rattle.std.proofs.Common.{◌≡◌, ℕ, ◌+◌, List, [], ◌++◌, take, drop, refl, sym, ap, ap₂, ◌∙◌, arith, append_assoc, Bool, true, false, if◌then◌else◌}
 use Rattle.std.proofs.lemmas.List.{append-nil, take-append-drop, take-take, drop-take}
-use Rattle.mud_world.specs.Door.{Connection, DoorState, Took, put_out, with_here, with_left}
+use Rattle.mud_world.specs.Door.{Connection, DoorState, Took, put_out, with_left}
 use Rattle.mud_world.specs.Causes.{Counts, RoseBy}
+use Rattle.mud_world.proofs.Parts.{with_here}
 
 -- a longer front is the front and a front of the rest
 pub take_further : (a n : ℕ) (xs : List ℕ) → take (a + n) xs ≡ take a xs ++ take n (drop a xs)

@@ -56,10 +56,6 @@ bound_anew port s = record { bound = Some port; stands = false; past = s.past; l
 abbrev pub with_left : List ℕ → DoorState → DoorState
 with_left left s = record s { left = left }
 
--- the same but for the connection
-abbrev pub with_here : Connection → DoorState → DoorState
-with_here c s = record s { left = c.left; written = c.written }
-
 -- The octets were taken from the front of what was left, and nothing else changed.
 pub record Took (octets : List ℕ) (old new : DoorState) : Type 0 where
   pub left : old.left ≡ octets ++ new.left

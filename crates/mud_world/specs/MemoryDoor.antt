@@ -1,5 +1,5 @@
 -- What a door in memory tells, and which of its calls fail.
-use Rattle.std.specs.Prelude.{◌≡◌, ℕ, ◌-◌, Bool, ◌||◌, ◌&&◌, nat_lt, nat_eq, if◌then◌else◌, List, [], length, drop, slice_index_or}
+use Rattle.std.specs.Prelude.{◌≡◌, ℕ, ◌-◌, Bool, false, ◌||◌, ◌&&◌, nat_lt, nat_eq, if◌then◌else◌, List, [], length, drop, slice_index_or}
 use Rattle.mud_world.specs.declared.memory_door.MemoryDoor.{MemoryDoor}
 use Rattle.mud_world.specs.declared.memory_door.DoorCalls.{DoorCalls}
 use Rattle.mud_world.specs.Calls.{is_listed, next_call}
@@ -57,6 +57,7 @@ pub record IsNew (inputs : List (List (List ℕ))) (most : ℕ) (door : MemoryDo
   pub turns : door.turn_count ≡ 0
   pub reads : door.read_count ≡ 0
   pub writes : door.write_count ≡ 0
+  pub fine : door.failed ≡ false
   pub calls : door.calls ≡ no_calls
 
 -- What no call changes: the pieces, the room, and the calls that are to fail.

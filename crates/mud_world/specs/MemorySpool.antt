@@ -1,5 +1,5 @@
 -- Which calls of a spool in memory fail, and what they leave.
-use Rattle.std.specs.Prelude.{◌≡◌, ℕ, Bool, ◌||◌, List, [], is_none}
+use Rattle.std.specs.Prelude.{◌≡◌, ℕ, Bool, false, ◌||◌, List, [], is_none}
 use Rattle.mud_world.specs.declared.memory_spool.MemorySpool.{MemorySpool}
 use Rattle.mud_world.specs.declared.memory_spool.SpoolCalls.{SpoolCalls}
 use Rattle.mud_world.specs.Calls.{is_listed, next_call}
@@ -21,6 +21,7 @@ pub record IsNew (files : List (List ℕ × List ℕ)) (spool : MemorySpool) : T
   pub failing_list : spool.failing_list ≡ []
   pub failing_read : spool.failing_read ≡ []
   pub count : spool.count ≡ 0
+  pub fine : spool.failed ≡ false
   pub calls : spool.calls ≡ no_calls
 
 -- What no call changes: the files, and the calls that are to fail.

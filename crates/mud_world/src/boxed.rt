@@ -1,5 +1,6 @@
 //! A call of a keeper in a box.
 ghost use Rattle.std.specs.Prelude.{◌≡◌, IsTrue, OnOk, OnErr};
+ghost use Rattle.mud_world.specs.Calls.{counted};
 ghost use Rattle.mud_world.specs.Causes.{Counts};
 ghost use Rattle.mud_world.specs.Items.{has_failed, is_batch, put_all, IsOrdered};
 
@@ -16,6 +17,7 @@ pub fn keep(keeper: &mut Box<dyn Keeper>, batch: &[Put]) -> Result<(), KeepFault
     ensures ok { tells keeper.new → OnOk result (items keeper.new ≡ put_all (items keeper.old) batch.now) }
     ensures err { tells keeper.new → OnErr result (items keeper.new ≡ items keeper.old) }
     ensures opened { opened keeper.new ≡ opened keeper.old }
+    ensures count { faults keeper.new ≡ counted (has_failed result) (faults keeper.old) }
     ensures cause { Counts (has_failed result) (faults keeper.old) (faults keeper.new) }
     ensures object { keeper.new.vtable ≡ keeper.old.vtable }
     ensures pointer { keeper.new.ptr ≡ keeper.old.ptr }

@@ -1,5 +1,6 @@
 //! Keepers: where items are kept from one run to the next.
 ghost use Rattle.std.specs.Prelude.{◌≡◌, ℕ, List, Bool, true, IsTrue, IfOk, OnOk, OnErr};
+ghost use Rattle.mud_world.specs.Calls.{counted};
 ghost use Rattle.mud_world.specs.Causes.{Counts};
 ghost use Rattle.mud_world.specs.declared.item.Item.{Item};
 
@@ -34,6 +35,7 @@ pub trait Keeper: Drop {
         ensures told { tells self.new → OnErr result (tells self.old) }
         ensures opened { OnOk result (opened self.new ≡ true) }
         ensures still { OnErr result (opened self.new ≡ opened self.old) }
+        ensures count { faults self.new ≡ counted (has_failed result) (faults self.old) }
         ensures cause { Counts (has_failed result) (faults self.old) (faults self.new) };
 
     /// Does the puts in order, all of them or, after an error, none. There are 1 to 4 puts, with
@@ -46,5 +48,6 @@ pub trait Keeper: Drop {
         ensures ok { tells self.new → OnOk result (items self.new ≡ put_all (items self.old) batch.now) }
         ensures err { tells self.new → OnErr result (items self.new ≡ items self.old) }
         ensures opened { opened self.new ≡ opened self.old }
+        ensures count { faults self.new ≡ counted (has_failed result) (faults self.old) }
         ensures cause { Counts (has_failed result) (faults self.old) (faults self.new) };
 }

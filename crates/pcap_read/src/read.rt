@@ -17,7 +17,7 @@ use crate::header::{HEADER_LEN, header_of};
 use crate::stage::{Current, Cursor, Next, Progress, Stage};
 use mud_base::ByteOrder;
 use mud_world::Door;
-use read_buffer::{Buffer, fetch};
+use read_buffer::{Buffer, fetch, wanted_behind};
 
 /// Reads the header.
 fn read_header<D: Door>(
@@ -42,16 +42,6 @@ fn read_header<D: Door>(
     Ok(order)
 }
 
-/// How many octets tell what comes behind so many packets.
-fn wanted_behind(count: u32) -> usize
-    ensures some { 1 ≤ result }
-    ensures most { result ≤ 16 }
-    ensures head { count < 100000000 → result ≡ 16 }
-    ensures beyond { 100000000 ≤ count → result ≡ 1 }
-{
-    if count < MOST_PACKETS { HEAD_LEN } else { 1 }
-}
-
 /// Reads the head of the next packet. There is none where the octets end between two packets.
 fn read_head<D: Door>(
     source: &mut D,
@@ -73,7 +63,8 @@ fn read_head<D: Door>(
     ensures turns { (D.view source.new).turns ≡ (D.view source.old).turns }
     ensures writes { (D.view source.new).writes ≡ (D.view source.old).writes }
 {
-    let is_enough = fetch(source, buffer, wanted_behind(cursor.count))?;
+    let wanted = wanted_behind(cursor.count, MOST_PACKETS, HEAD_LEN);
+    let is_enough = fetch(source, buffer, wanted)?;
     let held = buffer.held();
     if held.is_empty() {
         return Ok(None);

@@ -15,22 +15,12 @@ use crate::head::{HEAD_LEN, Head, MOST_OCTETS, head_in, is_read};
 use crate::standing::{Current, Met, Standing};
 use mud_base::number_32;
 use mud_world::{Door, Failed};
-use read_buffer::{Buffer, fetch};
+use read_buffer::{Buffer, fetch, wanted_behind};
 
 /// The most blocks of a capture.
 const MOST_BLOCKS: u32 = 100_000_000;
 /// How many octets the total length behind the body has (draft-ietf-opsawg-pcapng, section 3.1).
 const LAST_LEN: usize = 4;
-
-/// How many octets tell what comes behind so many blocks.
-fn wanted_behind(count: u32) -> usize
-    ensures some { 1 ≤ result }
-    ensures most { result ≤ 12 }
-    ensures head { count < 100000000 → result ≡ 12 }
-    ensures beyond { 100000000 ≤ count → result ≡ 1 }
-{
-    if count < MOST_BLOCKS { HEAD_LEN } else { 1 }
-}
 
 /// Reads up to the head of the next block. There is none where the octets end between two blocks.
 fn read_head<D: Door>(
@@ -50,7 +40,8 @@ fn read_head<D: Door>(
     ensures turns { (D.view source.new).turns ≡ (D.view source.old).turns }
     ensures writes { (D.view source.new).writes ≡ (D.view source.old).writes }
 {
-    let is_enough = fetch(source, buffer, wanted_behind(standing.blocks))?;
+    let wanted = wanted_behind(standing.blocks, MOST_BLOCKS, HEAD_LEN);
+    let is_enough = fetch(source, buffer, wanted)?;
     let held = buffer.held();
     if held.is_empty() {
         return Ok(None);

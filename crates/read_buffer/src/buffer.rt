@@ -103,6 +103,7 @@ impl<const SIZE: usize> Buffer<SIZE> {
         ensures octets { D.tells → IfOk result (λ _.
             Fetched self.old.held self.new.held (D.view source.old).state (D.view source.new).state) }
         ensures end { D.tells → IfOk result (λ n. n ≡ 0 → (D.view source.new).state.left ≡ []) }
+        ensures given { self.new.given ≡ [] }
         ensures kept { OnErr result (self.new.held ≡ self.old.held) }
         ensures err { D.tells → OnErr result ((D.view source.new).state ≡ (D.view source.old).state) }
         ensures cause { Counts (is_err result) (D.view source.old).reads (D.view source.new).reads }
@@ -121,7 +122,8 @@ impl<const SIZE: usize> Buffer<SIZE> {
 }
 
 /// Reads of the source until the buffer holds so many octets, or the source is at its end. It
-/// answers whether so many are held. Where they were before, nothing is read.
+/// answers whether so many are held. Where they were before, nothing is read; else nothing counts as
+/// handed out any more.
 pub fn fetch<D: Door, const SIZE: usize>(
     source: &mut D,
     buffer: &mut Buffer<SIZE>,
@@ -133,6 +135,8 @@ pub fn fetch<D: Door, const SIZE: usize>(
     ensures short { OnErr result (length buffer.new.held < count) }
     ensures octets { D.tells → Fetched buffer.old.held buffer.new.held (D.view source.old).state (D.view source.new).state }
     ensures untouched { count ≤ length buffer.old.held → (source.new ≡ source.old) × (buffer.new.held ≡ buffer.old.held) }
+    ensures kept { count ≤ length buffer.old.held → buffer.new.given ≡ buffer.old.given }
+    ensures given { length buffer.old.held < count → buffer.new.given ≡ [] }
     ensures cause { Counts (is_err result) (D.view source.old).reads (D.view source.new).reads }
     ensures stop { OnErr result (StopsAtFailure (D.view source.new).failed (D.view source.old).reads (D.view source.new).reads) }
     ensures turns { (D.view source.new).turns ≡ (D.view source.old).turns }
@@ -144,4 +148,16 @@ pub fn fetch<D: Door, const SIZE: usize>(
         }
     }
     Ok(true)
+}
+
+/// How many octets to ask for behind so many packets or blocks: those of the next head, or, where
+/// there are as many as may be, one, which tells whether the octets end.
+pub fn wanted_behind(count: u32, most: u32, head_len: usize) -> usize
+    requires { 1 ≤ head_len }
+    ensures some { 1 ≤ result }
+    ensures most { result ≤ head_len }
+    ensures head { count < most → result ≡ head_len }
+    ensures beyond { most ≤ count → result ≡ 1 }
+{
+    if count < most { head_len } else { 1 }
 }

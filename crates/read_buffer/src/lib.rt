@@ -6,5 +6,5 @@
 pub mod buffer;
 pub mod filling;
 
-pub use buffer::{Buffer, fetch};
+pub use buffer::{Buffer, fetch, wanted_behind};
 pub use filling::{refill, zeros};

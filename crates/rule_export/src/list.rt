@@ -251,7 +251,7 @@ fn push_of<L: Ledger>(
 }
 
 /// Adds the items of the file, where there is one.
-#[tactic(auto, unfolding(crate::specs::Resolved::file_items, crate::specs::Resolved::rule_in, crate::specs::Resolved::file_count))]
+#[tactic(auto, unfolding(crate::specs::Resolved::file_items, crate::specs::Resolved::rule_in, crate::specs::Resolved::file_row_count))]
 fn push_file<L: Ledger>(
     alloc: Global,
     list: &mut Listed<Resolved>,
@@ -260,7 +260,7 @@ fn push_file<L: Ledger>(
     steps: &mut Steps<L>,
 ) -> Result<(), Memory>
     ensures ok { OnOk result (list.new ≡ list.old ++ spec.file_items w.now file.entry) }
-    ensures counted { steps.new ≡ steps.old + spec.file_count file.entry }
+    ensures counted { steps.new ≡ steps.old + spec.file_row_count file.entry }
 {
     match file {
         None => Ok(()),
@@ -280,8 +280,8 @@ pub fn list_of<L: Ledger>(
     steps: &mut Steps<L>,
 ) -> Result<Listed<Resolved>, Memory>
     ensures list { IfOk result (λ list. list ≡ spec.resolved_of (spec.wanted locals.now m family) view.now) }
-    ensures counted { OnOk result (steps.new ≡ steps.old + spec.file_count view.now.file + length view.now.defaults.rows) }
-    ensures most { steps.new ≤ steps.old + spec.file_count view.now.file + length view.now.defaults.rows }
+    ensures counted { OnOk result (steps.new ≡ steps.old + spec.file_row_count view.now.file + length view.now.defaults.rows) }
+    ensures most { steps.new ≤ steps.old + spec.file_row_count view.now.file + length view.now.defaults.rows }
 {
     let w = Wants {
         locals,
@@ -304,8 +304,8 @@ pub fn export_list<L: Ledger>(
     steps: &mut Steps<L>,
 ) -> Result<Listed<Resolved>, Memory>
     ensures list { IfOk result (λ list. list ≡ spec.resolved_of (spec.wanted locals.now m family) view.entry) }
-    ensures counted { OnOk result (steps.new ≡ steps.old + spec.file_count view.entry.file + length view.entry.defaults.rows) }
-    ensures most { steps.new ≤ steps.old + spec.file_count view.entry.file + length view.entry.defaults.rows }
+    ensures counted { OnOk result (steps.new ≡ steps.old + spec.file_row_count view.entry.file + length view.entry.defaults.rows) }
+    ensures most { steps.new ≤ steps.old + spec.file_row_count view.entry.file + length view.entry.defaults.rows }
 {
     list_of(alloc, &view, locals, family, m, steps)
 }

@@ -2,7 +2,7 @@
 use Rattle.std.proofs.Common.{◌≡◌, List, [], Option, Some, None, if◌then◌else◌, refl, inl, inr}
 use Rattle.mud_base.specs.declared.packet.Fields.{Fields}
 use Rattle.mud_base.specs.declared.packet.Direction.TheVariants.{From, To}
-use Rattle.table_model.specs.History.{Endpoint, Segment, Begun, Flows, begun_of, is_between, with_packet, begun_between, last_moment, MayKeep, StandsFor}
+use Rattle.table_model.specs.History.{Endpoint, Segment, Begun, Flows, begun_of, is_between, with_packet, begun_between, last_packet_at, MayKeep, StandsFor}
 use Rattle.table_model.proofs.Literals.{flows_compute, tcp, call, answer, back_call, bulb_addr, test_addr}
 
 -- the call was forwarded at 1001
@@ -89,17 +89,17 @@ abbrev one_flow : Flows
 one_flow = record { last = Some 1001; kept = kept_of_call }
 
 -- it keeps who began, with the moment of the last packet
-call_noted : MayKeep (last_moment called) (begun_between called (bulb_addr, 50000) (test_addr, 443)) (one_flow.kept (bulb_addr, 50000) (test_addr, 443))
+call_noted : MayKeep (last_packet_at called) (begun_between called (bulb_addr, 50000) (test_addr, 443)) (one_flow.kept (bulb_addr, 50000) (test_addr, 443))
 unfolding flows_compute
 call_noted = inl refl
 
 -- of the endpoints in either order
-turned_noted : MayKeep (last_moment called) (begun_between called (test_addr, 443) (bulb_addr, 50000)) (one_flow.kept (test_addr, 443) (bulb_addr, 50000))
+turned_noted : MayKeep (last_packet_at called) (begun_between called (test_addr, 443) (bulb_addr, 50000)) (one_flow.kept (test_addr, 443) (bulb_addr, 50000))
 unfolding flows_compute
 turned_noted = inl refl
 
 -- and of no other pair of endpoints
-others_noted : MayKeep (last_moment called) (begun_between called (bulb_addr, 50001) (test_addr, 443)) (one_flow.kept (bulb_addr, 50001) (test_addr, 443))
+others_noted : MayKeep (last_packet_at called) (begun_between called (bulb_addr, 50001) (test_addr, 443)) (one_flow.kept (bulb_addr, 50001) (test_addr, 443))
 unfolding flows_compute
 others_noted = refl
 
@@ -112,7 +112,7 @@ call_expected = refl
 abbrev later : List Segment
 later = with_packet called (tcp bulb_addr 50001 test_addr 443 2) 8442
 
-call_forgotten : MayKeep (last_moment later) (begun_between later (bulb_addr, 50000) (test_addr, 443)) (no_flows.kept (bulb_addr, 50000) (test_addr, 443))
+call_forgotten : MayKeep (last_packet_at later) (begun_between later (bulb_addr, 50000) (test_addr, 443)) (no_flows.kept (bulb_addr, 50000) (test_addr, 443))
 unfolding flows_compute
 call_forgotten = inr (refl, refl)
 

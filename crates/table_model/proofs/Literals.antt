@@ -14,7 +14,7 @@ use Rattle.table_model.specs.Things.{mac_of, thing_at, set_thing, without_thing,
 use Rattle.table_model.specs.ThingCommands.{is_pending, url_cases, url_step, move_cases, move_step, remove_step, with_hold, hold_cases, hold_step, release_cases, release_step, expiry_after, kept_lease, new_lease, known_lease, stranger_lease, lease_cases, lease_step, end_step}
 use Rattle.table_model.specs.Binds.{key_of_class, class_key, class_at, set_class, without_class, class_row, has_addr, with_addr, without_addr, same_prefix, prefixes_in_order, same_prefixes, name_of, name_at, set_name, without_name, name_row, has_live_row}
 use Rattle.table_model.specs.BindCommands.{bind_step, unbind_step, locals_step, addrs_of, least_dead, replacing, new_pair, kept_pair, observe_row, observe_step}
-use Rattle.table_model.specs.History.{segment_of, same_endpoint, is_between, between, opens, resets, beginner_of, side_of, begun_of, with_segment, with_packet, last_moment, is_forward, with_moment, begun_at, begun_between, is_past}
+use Rattle.table_model.specs.History.{segment_of, same_endpoint, is_between, between, opens, resets, beginner_of, side_of, begun_of, with_segment, with_packet, last_packet_at, is_forward, with_moment, begun_at, begun_between, is_past}
 
 -- the lists of addresses and expiries
 unfoldable pub expiries_compute : Unit {0}
@@ -33,7 +33,7 @@ binds_compute = tt
 
 -- who began a connection
 unfoldable pub flows_compute : Unit {0}
-unfolding same_addr segment_of same_endpoint is_between between opens resets beginner_of side_of begun_of with_segment with_packet last_moment is_forward with_moment begun_at begun_between is_past
+unfolding same_addr segment_of same_endpoint is_between between opens resets beginner_of side_of begun_of with_segment with_packet last_packet_at is_forward with_moment begun_at begun_between is_past
 flows_compute = tt
 
 -- ---- Hardware addresses 02:00:00:00:00:01, :02 and :09

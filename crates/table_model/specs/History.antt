@@ -113,10 +113,10 @@ pub record Flows : Type 0 where
   pub kept : Endpoint → Endpoint → Option Begun
 
 -- the moment of the last packet
-unfoldable pub last_moment : List Segment → Option ℕ
-last_moment [] = None
-last_moment (p ∷ []) = Some p.at
-last_moment (p ∷ (q ∷ ps)) = last_moment (q ∷ ps)
+unfoldable pub last_packet_at : List Segment → Option ℕ
+last_packet_at [] = None
+last_packet_at (p ∷ []) = Some p.at
+last_packet_at (p ∷ (q ∷ ps)) = last_packet_at (q ∷ ps)
 
 -- the moments never go back
 unfoldable pub is_forward : List Segment → Bool
@@ -133,7 +133,7 @@ begun_at history a b None = None
 begun_at history a b (Some m) = option_map (with_moment m) (beginner_of history a b m)
 
 unfoldable pub begun_between : List Segment → Endpoint → Endpoint → Option Begun
-begun_between history a b = begun_at history a b (last_moment (between a b history))
+begun_between history a b = begun_at history a b (last_packet_at (between a b history))
 
 -- the moment is further before the last one than a connection may be silent
 unfoldable pub is_past : Option ℕ → ℕ → Bool
@@ -148,5 +148,5 @@ MayKeep last (Some begun) kept = (kept ≡ Some begun) ⊎ ((kept ≡ None) × I
 -- the table stands for the history
 pub record StandsFor (history : List Segment) (flows : Flows) : Type 0 where
   pub forward : IsTrue (is_forward history)
-  pub last : flows.last ≡ last_moment history
-  pub kept : (a b : Endpoint) → MayKeep (last_moment history) (begun_between history a b) (flows.kept a b)
+  pub last : flows.last ≡ last_packet_at history
+  pub kept : (a b : Endpoint) → MayKeep (last_packet_at history) (begun_between history a b) (flows.kept a b)

@@ -1,5 +1,5 @@
 //! Lists in the order of their sort keys, each sort key once.
-ghost use Rattle.std.specs.Prelude.{◌≡◌, ◌↔◌, IsTrue, OnOk, IfOk};
+ghost use Rattle.std.specs.Prelude.{◌≡◌, ◌↔◌, IsTrue, OnOk, OnErr, IfOk};
 ghost use Rattle.base_rows.specs.Sortable.{SortKeysAscend, index_in, set_row};
 ghost use Rattle.base_rows.specs.Ascending.{sort_keys_ascend};
 
@@ -31,9 +31,11 @@ fn index_among<R: Sortable>(list: &[R], row: &R) -> Result<usize, usize>
     Err(list.len())
 }
 
-/// Puts a row into a list, in place of the one that has its sort key.
+/// Puts a row into a list, in place of the one that has its sort key. Without memory for it the
+/// list stays.
 pub fn put_in<R: Sortable + Drop>(list: &mut Vec<R>, row: R) -> Result<(), Memory>
-    ensures { OnOk result (list.new.items ≡ set_row R.sort_key row list.old.items) }
+    ensures ok { OnOk result (list.new.items ≡ set_row R.sort_key row list.old.items) }
+    ensures err { OnErr result (list.new.items ≡ list.old.items) }
 {
     let found = index_among(list.as_slice(), &row);
     list.reserve(1)?;

@@ -107,6 +107,7 @@ pub(super) fn put_sorted<R: Sortable + Drop>(rows: &mut Vec<R>, more: Vec<R>) ->
     ensures ok { OnOk result (rows.new.items ≡ set_rows R.sort_key more.items rows.old.items) }
     ensures err { OnErr result (rows.new.items ≡ rows.old.items) }
     ensures ascend { SortKeysAscend R.sort_key rows.new.items }
+    ensures capacity { vec_capacity rows.old ≤ vec_capacity rows.new }
 {
     let mut moved = Vec::new(*rows.allocator());
     rows.reserve(more.len())?;

@@ -227,6 +227,7 @@ impl<R: Sortable> SortedRows<R> {
         R: Drop,
         ensures ok { OnOk result (self.new.rows ≡ set_rows R.sort_key rows.rows self.old.rows) }
         ensures err { OnErr result (self.new.rows ≡ self.old.rows) }
+        ensures space { self.old.room + length self.old.rows ≤ self.new.room + length self.new.rows }
     {
         let SortedRows { rows: more } = rows;
         put_sorted(&mut self.rows, more)

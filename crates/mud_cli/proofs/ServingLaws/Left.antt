@@ -16,7 +16,7 @@ use Rattle.http_requests.specs.declared.fault.MomentFrom.{MomentFrom}
 use Rattle.http_requests.specs.declared.end.ConnectionEnd.{ConnectionEnd}
 use Rattle.http_requests.specs.Ends.{IsServed}
 use Rattle.http_requests.specs.Runs.{IsLeftBy}
-use Rattle.http_requests.specs.Visits.{AreEnough, CountsOf, ServedInTurn, Visited}
+use Rattle.http_requests.specs.Visits.{AreEnough, CountsOf, count_behind, ServedInTurn, Visited}
 use Rattle.console.specs.Answers.{fault_answer}
 use Rattle.console.specs.States.{ConsoleState, ConsoleStep, IsAt}
 use Rattle.mud_cli.specs.Serving.Store.{LeavesDesk}
@@ -60,8 +60,8 @@ in_turn_before tells keeps s from failed count first mid new same_state same_rea
   visits = p.visits;
   visited = subst (λ (d : DoorState). Visited (ConsoleStep tells) fault_answer from keeps s p.visits d new.state) same_state p.visited;
   enough = subst (λ (d : DoorState). AreEnough failed count p.visits d) same_state p.enough;
-  reads = subst (λ (n : ℕ). CountsOf (count_by failed_to_read p.visits) n new.reads) same_reads p.reads;
-  writes = subst (λ (n : ℕ). CountsOf (count_by failed_to_write p.visits) n new.writes) same_writes p.writes;
+  reads = p.reads ∙ ap (count_behind (count_by failed_to_read p.visits)) same_reads;
+  writes = p.writes ∙ ap (count_behind (count_by failed_to_write p.visits)) same_writes;
 }
 
 -- ---- The keeper

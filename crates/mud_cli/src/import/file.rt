@@ -59,7 +59,7 @@ fn reply_to<L: Ledger, P: Spool, C: Clock>(
     ensures leads { P.tells → C.tells → IfOk result (λ reply. ImportsEntry (P.view spool.old).files
         (standing desk.old.state (C.moments clock.old)) name.now reply (standing desk.new.state (C.moments clock.new))) }
     ensures keeper { IfOk result (λ reply. Counts (has_keeper_failed reply) (faults_of Keeper-dyn desk.old.keeper) (faults_of Keeper-dyn desk.new.keeper)) }
-    ensures statuses { IfOk result (λ reply. (entries.status_with reply ≡ 0) ⊎ ((entries.status_with reply ≡ 3) ⊎ (entries.status_with reply ≡ 7))) }
+    ensures statuses { IfOk result (λ reply. IsOneOf (Done ∷ Refused ∷ KeeperFailed ∷ []) (entries.status_with reply)) }
     ensures still { OnErr result (session_of desk.new.state ≡ session_of desk.old.state) }
     ensures steady { OnErr result (faults_of Keeper-dyn desk.new.keeper ≡ faults_of Keeper-dyn desk.old.keeper) }
     ensures clock { C.tells → OnErr result ((C.moments clock.new ≡ C.moments clock.old) ⊎ (C.moments clock.new ≡ later_moments (C.moments clock.old))) }
@@ -144,7 +144,7 @@ pub(crate) fn import_file<L: Ledger, D: Door, P: Spool, C: Clock>(
         (scene desk.old.state (C.moments clock.old) (D.view door.old).state (faults_of Keeper-dyn desk.old.keeper))
         (scene desk.new.state (C.moments clock.new) (D.view door.new).state (faults_of Keeper-dyn desk.new.keeper))) }
     ensures statuses { IfOk result (λ status. IsOneOf (Done ∷ Refused ∷ KeeperFailed ∷ []) (status_number status)) }
-    ensures keeper { IfOk result (λ status. Counts (status_number status == 7) (faults_of Keeper-dyn desk.old.keeper) (faults_of Keeper-dyn desk.new.keeper)) }
+    ensures keeper { IfOk result (λ status. Counts (status_number status == status_number KeeperFailed) (faults_of Keeper-dyn desk.old.keeper) (faults_of Keeper-dyn desk.new.keeper)) }
     ensures failed { result ≡ Err Stop.Failed → IsStoppedByDoorOrSpool
         (D.view door.old) (D.view door.new) (P.view spool.old) (P.view spool.new) }
     ensures steady { has_failed result ≡ false →

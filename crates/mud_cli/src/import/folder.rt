@@ -55,7 +55,7 @@ fn import_names<L: Ledger, D: Door, P: Spool, C: Clock>(
         (scene desk.old.state (C.moments clock.old) (D.view door.old).state (faults_of Keeper-dyn desk.old.keeper))
         (scene desk.new.state (C.moments clock.new) (D.view door.new).state (faults_of Keeper-dyn desk.new.keeper))) }
     ensures statuses { IfOk result (λ status. IsOneOf (Done ∷ Refused ∷ KeeperFailed ∷ []) (status_number status)) }
-    ensures keeper { IfOk result (λ status. Counts (status_number status == 7) (faults_of Keeper-dyn desk.old.keeper) (faults_of Keeper-dyn desk.new.keeper)) }
+    ensures keeper { IfOk result (λ status. Counts (status_number status == status_number KeeperFailed) (faults_of Keeper-dyn desk.old.keeper) (faults_of Keeper-dyn desk.new.keeper)) }
     ensures failed { result ≡ Err Stop.Failed → IsStoppedByDoorOrSpool
         (D.view door.old) (D.view door.new) (P.view spool.old) (P.view spool.new) }
     ensures steady { has_failed result ≡ false → AreSteady (D.view door.old) (D.view door.new) (P.view spool.old) (P.view spool.new) }
@@ -92,7 +92,7 @@ fn import_listed<L: Ledger, D: Door, P: Spool, C: Clock>(
         (scene desk.old.state (C.moments clock.old) (D.view door.old).state (faults_of Keeper-dyn desk.old.keeper))
         (scene desk.new.state (C.moments clock.new) (D.view door.new).state (faults_of Keeper-dyn desk.new.keeper))) }
     ensures statuses { IfOk result (λ status. IsOneOf (Done ∷ Refused ∷ KeeperFailed ∷ []) (status_number status)) }
-    ensures keeper { IfOk result (λ status. Counts (status_number status == 7) (faults_of Keeper-dyn desk.old.keeper) (faults_of Keeper-dyn desk.new.keeper)) }
+    ensures keeper { IfOk result (λ status. Counts (status_number status == status_number KeeperFailed) (faults_of Keeper-dyn desk.old.keeper) (faults_of Keeper-dyn desk.new.keeper)) }
     ensures failed { result ≡ Err Stop.Failed → IsStoppedByDoorOrSpool
         (D.view door.old) (D.view door.new) (P.view spool.old) (P.view spool.new) }
     ensures steady { has_failed result ≡ false → AreSteady (D.view door.old) (D.view door.new) (P.view spool.old) (P.view spool.new) }

@@ -17,7 +17,7 @@ loop-binding-preserved g c =
           c.loop-binding.invariant.edits
           ∙ next_edit (binding_edit c.args.bindings.now.rows c.args.comes) c.args.changed.now i c.binding-item.result c.loop-binding.edits.rows c.loop-binding-test.true c.binding-item.is
           ∙ ap (λ (es : List (Edit Binding)). set_rows (edit_sort_key binding_sort_key) (map (binding_edit c.args.bindings.now.rows c.args.comes) rest) es)
-          (sym (c.in_ok-plan_edit.ensures ∙ one_planned c.args.bindings.now.rows c.args.comes c.binding-item.result c.in_ok-copy.field-0 c.find_counted-found.result c.loop-binding.edits.rows c.in_ok-copy.ensures c.find_counted-found.ensures.index));
+          (sym (c.in_ok-plan_edit.ensures.ok ∙ one_planned c.args.bindings.now.rows c.args.comes c.binding-item.result c.in_ok-copy.field-0 c.find_counted-found.result c.loop-binding.edits.rows c.in_ok-copy.ensures c.find_counted-found.ensures.index));
       up = omega (arith, c.loop-binding.invariant.up, c.find_counted-found.ensures.least);
       most = λ b few. omega (arith, c.loop-binding.invariant.most b few, c.find_counted-found.ensures.digits b few);
     }

@@ -3,7 +3,7 @@ use Rattle.table_model.specs.declared.segment.Segment.{Segment}
 use Rattle.flow_table.specs.Noted.{segment_planned}
 use Rattle.mud_desk.proofs.Notes.{history_kept, history_more}
 use Rattle.mud_desk.proofs.Since.{since_later, since_same, since_noted}
-use Rattle.table_model.specs.History.{last_moment}
+use Rattle.table_model.specs.History.{last_packet_at}
 use Rattle.mud_desk.proofs.noting.note.Goals as goal
 
 pub returns-in_err-plan-in-Some-clause-since : goal.returns-in_err-plan-in-Some-clause-since
@@ -24,4 +24,4 @@ pub returns-in-None-clause-ok : goal.returns-in-None-clause-ok
 returns-in-None-clause-ok c = sym (history_kept c.args.flows.now.history c.args.frame.now c.args.verdict.now c.args.now c.in-None.ensures.value)
 
 pub returns-in-None-clause-since : goal.returns-in-None-clause-since
-returns-in-None-clause-since c = λ n le. since_later (last_moment c.args.flows.now.history) c.args.now n c.requires.since le
+returns-in-None-clause-since c = λ n le. since_later (last_packet_at c.args.flows.now.history) c.args.now n c.requires.since le

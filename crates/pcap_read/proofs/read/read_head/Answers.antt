@@ -8,8 +8,8 @@ use Rattle.pcap_read.proofs.read.read_head.Goals as goal
 pub returns-in_err-is_enough-clause-err : goal.returns-in_err-is_enough-clause-err
 returns-in_err-is_enough-clause-err g c = λ t.
     let p = err_from_is_err_and c.from_residual.result c.from_residual.ensures.1 in
-    let short : length c.fetch.new.buffer.held < 16 = omega (arith, c.in_err-is_enough.ensures.short, c.wanted_behind.ensures.most) in
-    rw (p.1, p.2) (head_failed _ _ _ _ (c.in_err-is_enough.ensures.octets t) c.args.cursor short (λ beyond. omega (arith, c.in_err-is_enough.ensures.short, c.wanted_behind.ensures.beyond beyond)))
+    let short : length c.fetch.new.buffer.held < 16 = omega (arith, c.in_err-is_enough.ensures.short, c.wanted_behind-wanted.ensures.most) in
+    rw (p.1, p.2) (head_failed _ _ _ _ (c.in_err-is_enough.ensures.octets t) c.args.cursor short (λ beyond. omega (arith, c.in_err-is_enough.ensures.short, c.wanted_behind-wanted.ensures.beyond beyond)))
 
 pub returns-then-cursor-ge-MOST_PACKETS-clause-err : goal.returns-then-cursor-ge-MOST_PACKETS-clause-err
 returns-then-cursor-ge-MOST_PACKETS-clause-err g c = λ t.
@@ -35,30 +35,30 @@ returns-clause-ok g c = λ t.
 
 pub returns-in_err-is_enough-clause-unread : goal.returns-in_err-is_enough-clause-unread
 returns-in_err-is_enough-clause-unread g c = λ decided.
-    (c.in_err-is_enough.ensures.untouched (decided_enough c.args.cursor.order c.args.cursor.count c.args.buffer.now.held c.wanted_behind.result c.wanted_behind.ensures.head c.wanted_behind.ensures.beyond decided)).0
+    (c.in_err-is_enough.ensures.untouched (decided_enough c.args.cursor.order c.args.cursor.count c.args.buffer.now.held c.wanted_behind-wanted.result c.wanted_behind-wanted.ensures.head c.wanted_behind-wanted.ensures.beyond decided)).0
 
 pub returns-then-is_empty-clause-unread : goal.returns-then-is_empty-clause-unread
 returns-then-is_empty-clause-unread g c = λ decided.
-    (c.in_ok-is_enough.ensures.untouched (decided_enough c.args.cursor.order c.args.cursor.count c.args.buffer.now.held c.wanted_behind.result c.wanted_behind.ensures.head c.wanted_behind.ensures.beyond decided)).0
+    (c.in_ok-is_enough.ensures.untouched (decided_enough c.args.cursor.order c.args.cursor.count c.args.buffer.now.held c.wanted_behind-wanted.result c.wanted_behind-wanted.ensures.head c.wanted_behind-wanted.ensures.beyond decided)).0
 
 pub returns-then-cursor-ge-MOST_PACKETS-clause-unread : goal.returns-then-cursor-ge-MOST_PACKETS-clause-unread
 returns-then-cursor-ge-MOST_PACKETS-clause-unread g c = λ decided.
-    (c.in_ok-is_enough.ensures.untouched (decided_enough c.args.cursor.order c.args.cursor.count c.args.buffer.now.held c.wanted_behind.result c.wanted_behind.ensures.head c.wanted_behind.ensures.beyond decided)).0
+    (c.in_ok-is_enough.ensures.untouched (decided_enough c.args.cursor.order c.args.cursor.count c.args.buffer.now.held c.wanted_behind-wanted.result c.wanted_behind-wanted.ensures.head c.wanted_behind-wanted.ensures.beyond decided)).0
 
 pub returns-then-not-is_enough-clause-unread : goal.returns-then-not-is_enough-clause-unread
 returns-then-not-is_enough-clause-unread g c = λ decided.
-    (c.in_ok-is_enough.ensures.untouched (decided_enough c.args.cursor.order c.args.cursor.count c.args.buffer.now.held c.wanted_behind.result c.wanted_behind.ensures.head c.wanted_behind.ensures.beyond decided)).0
+    (c.in_ok-is_enough.ensures.untouched (decided_enough c.args.cursor.order c.args.cursor.count c.args.buffer.now.held c.wanted_behind-wanted.result c.wanted_behind-wanted.ensures.head c.wanted_behind-wanted.ensures.beyond decided)).0
 
 pub returns-then-head-gt-MOST_OCTETS-clause-unread : goal.returns-then-head-gt-MOST_OCTETS-clause-unread
 returns-then-head-gt-MOST_OCTETS-clause-unread g c = λ decided.
-    (c.in_ok-is_enough.ensures.untouched (decided_enough c.args.cursor.order c.args.cursor.count c.args.buffer.now.held c.wanted_behind.result c.wanted_behind.ensures.head c.wanted_behind.ensures.beyond decided)).0
+    (c.in_ok-is_enough.ensures.untouched (decided_enough c.args.cursor.order c.args.cursor.count c.args.buffer.now.held c.wanted_behind-wanted.result c.wanted_behind-wanted.ensures.head c.wanted_behind-wanted.ensures.beyond decided)).0
 
 pub returns-clause-unread : goal.returns-clause-unread
 returns-clause-unread g c = λ decided.
-    (c.in_ok-is_enough.ensures.untouched (decided_enough c.args.cursor.order c.args.cursor.count c.args.buffer.now.held c.wanted_behind.result c.wanted_behind.ensures.head c.wanted_behind.ensures.beyond decided)).0
+    (c.in_ok-is_enough.ensures.untouched (decided_enough c.args.cursor.order c.args.cursor.count c.args.buffer.now.held c.wanted_behind-wanted.result c.wanted_behind-wanted.ensures.head c.wanted_behind-wanted.ensures.beyond decided)).0
 
 pub returns-clause-ready : goal.returns-clause-ready
 returns-clause-ready g c = λ decided.
-    let same = (c.in_ok-is_enough.ensures.untouched (decided_enough c.args.cursor.order c.args.cursor.count c.args.buffer.now.held c.wanted_behind.result c.wanted_behind.ensures.head c.wanted_behind.ensures.beyond decided)).1 in
+    let same = (c.in_ok-is_enough.ensures.untouched (decided_enough c.args.cursor.order c.args.cursor.count c.args.buffer.now.held c.wanted_behind-wanted.result c.wanted_behind-wanted.ensures.head c.wanted_behind-wanted.ensures.beyond decided)).1 in
     let long : 16 ≤ length c.fetch.new.buffer.held = grind (arith, nat_tests, c.in_ok-is_enough.ensures.enough) in
     ready_head c.args.cursor c.args.buffer.now.held c.fetch.new.buffer.held c.split_at.result.0.now c.hand_out.new.self.held c.head_in-head.result.len same (omega arith) long (cc) c.head_in-head.ensures.len (omega arith) c.hand_out.ensures.held decided

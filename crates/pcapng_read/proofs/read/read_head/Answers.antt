@@ -10,8 +10,8 @@ use Rattle.pcapng_read.proofs.read.read_head.Goals as goal
 pub returns-in_err-is_enough-clause-err : goal.returns-in_err-is_enough-clause-err
 returns-in_err-is_enough-clause-err g c = λ t.
     let p = err_from_is_err_and c.from_residual.result c.from_residual.ensures.1 in
-    let short : length c.fetch.new.buffer.held < 12 = omega (arith, c.in_err-is_enough.ensures.short, c.wanted_behind.ensures.most) in
-    rw (p.1, p.2) (head_failed c.args.standing.now _ _ _ _ (c.in_err-is_enough.ensures.octets t) short (λ beyond. omega (arith, c.in_err-is_enough.ensures.short, c.wanted_behind.ensures.beyond beyond)))
+    let short : length c.fetch.new.buffer.held < 12 = omega (arith, c.in_err-is_enough.ensures.short, c.wanted_behind-wanted.ensures.most) in
+    rw (p.1, p.2) (head_failed c.args.standing.now _ _ _ _ (c.in_err-is_enough.ensures.octets t) short (λ beyond. omega (arith, c.in_err-is_enough.ensures.short, c.wanted_behind-wanted.ensures.beyond beyond)))
 
 pub returns-then-standing-ge-MOST_BLOCKS-clause-err : goal.returns-then-standing-ge-MOST_BLOCKS-clause-err
 returns-then-standing-ge-MOST_BLOCKS-clause-err g c = λ t.

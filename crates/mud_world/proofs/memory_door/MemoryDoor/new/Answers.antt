@@ -31,4 +31,5 @@ returns c =
       reads = refl;
       writes = refl;
       calls = refl;
+      fine = refl;
     }

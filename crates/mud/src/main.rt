@@ -43,7 +43,7 @@ fn run(rt: HostRuntime) -> u8 {
 /// The status of a run. A word that isn't UTF-8 is in no listed line.
 fn status_of(rt: HostRuntime) -> u8 {
     match words(&rt) {
-        Ok(words) => run_words(rt, words.as_slice()).unwrap_or(Status::NoMemory.number()),
+        Ok(words) => run_with_store(rt, words.as_slice()).unwrap_or(Status::NoMemory.number()),
         Err(error) => {
             if error.kind() == ErrorKind::OutOfMemory {
                 Status::NoMemory.number()
@@ -85,7 +85,7 @@ fn take_streams(rt: &HostRuntime) -> [io::Result<<HostRuntime as Files>::File>; 
 
 /// Runs these words. Neither the keeper of a store's file nor the spool of a folder opens anything
 /// before a command does.
-fn run_words(rt: HostRuntime, words: &[String]) -> io::Result<u8> {
+fn run_with_store(rt: HostRuntime, words: &[String]) -> io::Result<u8> {
     let alloc = rt.alloc();
     let (store, folder) = operands(alloc, words);
     let folder = String::from_str(alloc, folder)?;

@@ -1,5 +1,5 @@
 //! A port of this machine on which clients are awaited, and the client that is served.
-ghost use Rattle.std.specs.Prelude.{◌≡◌, true, false, None, Some, Ok, IfOk, IfSome, OnOk, OnErr};
+ghost use Rattle.std.specs.Prelude.{◌≡◌, true, false, None, Some, Ok, IfOk, IfSome, OnOk, OnErr, is_some};
 ghost use Rattle.std.specs.Net.Socket.{socket_ip, socket_port};
 ghost use Rattle.std.specs.Io.{ReadsAtMost, WritesAtMost};
 ghost use Rattle.std.specs.Io.KnownBytes.{ReadConsumes, WriteAppends};
@@ -72,13 +72,14 @@ impl<N: Net> Port<N> {
         Ok(())
     }
 
-    /// Reads once of the client, whose time goes by this clock and runs on where it had begun. Where
-    /// no client is served, it answers 0.
+    /// Reads once of the client, whose time goes by this clock: it begins with the first read, and runs
+    /// on where it had begun. Where no client is served, it answers 0.
     pub fn read<C: Clock>(&mut self, clock: &C, buf: &mut [u8]) -> io::Result<usize>
         ensures within { ReadsAtMost result buf.new }
         ensures octets { ReadConsumes (client_octets N.Stream.remaining self.old.client) (client_octets N.Stream.remaining self.new.client) result buf.new }
         ensures nowhere { is_served self.old ≡ false → result ≡ Ok 0 }
         ensures since { IfSome (since_of self.old) (λ since. since_of self.new ≡ Some since) }
+        ensures begun { OnOk result (is_some (since_of self.new) ≡ is_served self.old) }
         ensures served { is_served self.new ≡ is_served self.old }
         ensures number { self.new.number ≡ self.old.number }
     {

@@ -1,10 +1,10 @@
-pub mod Boxed
 pub mod Calls
 pub mod Causes
 pub mod Clock
 pub mod Door
 pub mod Files
 pub mod Items
+pub mod Kept
 pub mod MemoryClock
 pub mod MemoryConnections
 pub mod MemoryDoor

@@ -2,7 +2,6 @@
 //! one of each in memory.
 #![tactic(auto)]
 
-pub mod boxed;
 mod calls;
 pub mod clock;
 pub mod door;
@@ -19,7 +18,6 @@ pub mod spool;
 pub mod whole;
 mod wire;
 
-pub use boxed::keep;
 pub use clock::Clock;
 pub use door::Door;
 pub use fault::{Failed, KeepFault, SpoolFault};

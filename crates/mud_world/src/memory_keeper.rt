@@ -1,8 +1,9 @@
 //! A keeper in memory.
-ghost use Rattle.std.specs.Prelude.{◌≡◌, true, IsTrue, IfOk, OnOk, OnErr};
+ghost use Rattle.std.specs.Prelude.{◌≡◌, ◌⊎◌, List, true, IsTrue, IfOk, OnOk, OnErr};
 ghost use Rattle.mud_world.specs.Calls.{counted, next_call};
 ghost use Rattle.mud_world.specs.Causes.{Counts};
 ghost use Rattle.mud_world.specs.Items.{has_failed, is_batch, put_all, IsOrdered};
+ghost use Rattle.mud_world.specs.declared.item.Item.{Item};
 
 use crate::calls::{is_to_fail, raise};
 use crate::fault::KeepFault;
@@ -88,12 +89,16 @@ impl Keeper for MemoryKeeper {
 
     ghost opened = { has_opened };
 
+    ghost left = { λ keeper list. list ≡ keeper.items.rows };
+
     ghost faults = { λ keeper. keeper.count };
 
     fn open(&mut self, alloc: Global) -> Result<Listed<Item>, KeepFault>
         ensures items { IfOk result (λ list. list ≡ self.new.items.rows) }
         ensures ordered { IsOrdered self.new.items.rows }
         ensures same { self.new.items.rows ≡ self.old.items.rows }
+        ensures crash { (list : List Item) → list ≡ self.new.items.rows
+            → (list ≡ self.old.items.rows) ⊎ (list ≡ self.new.items.rows) }
         ensures opened { OnOk result (has_opened self.new ≡ true) }
         ensures still { OnErr result (has_opened self.new ≡ has_opened self.old) }
         ensures fails { has_failed result ≡ open_fails self.old }
@@ -118,6 +123,8 @@ impl Keeper for MemoryKeeper {
         ensures ordered { IsOrdered self.new.items.rows }
         ensures ok { OnOk result (self.new.items.rows ≡ put_all self.old.items.rows batch.now) }
         ensures err { OnErr result (self.new.items.rows ≡ self.old.items.rows) }
+        ensures crash { (list : List Item) → list ≡ self.new.items.rows
+            → (list ≡ self.old.items.rows) ⊎ (list ≡ put_all self.old.items.rows batch.now) }
         ensures opened { has_opened self.new ≡ has_opened self.old }
         ensures fails { has_failed result ≡ apply_fails self.old }
         ensures count { self.new.count ≡ counted (has_failed result) self.old.count }

@@ -1,5 +1,5 @@
 -- Runs of edits, each of which is made at once. Only the contracts of functions that are not public cite these.
-use Rattle.std.specs.Prelude.{◌≡◌, ℕ, suc, Result, Ok, Err, List, [], ◌∷◌, ◌++◌}
+use Rattle.std.specs.Prelude.{◌≡◌, ℕ, suc, Bool, true, false, Result, Ok, Err, List, [], ◌∷◌, ◌++◌}
 use Rattle.base_rows.specs.declared.edit.Edit.{Edit}
 use Rattle.base_rows.specs.Edits.{edited}
 
@@ -8,8 +8,14 @@ abbrev pub found_next : Result ℕ ℕ → Result ℕ ℕ
 found_next (Ok i) = Ok (suc i)
 found_next (Err i) = Err i
 
--- the second edit goes on with the run of the first
+-- whether a row comes where an edit of this index changes something: where none stands one comes, and else it goes
+abbrev pub comes_at : Result ℕ ℕ → Bool
+comes_at (Ok i) = false
+comes_at (Err i) = true
+
+-- the second edit goes on with the run of the first, which changes something
 pub record GoesOn {R : Type 0} (edit next : Edit R) : Type 0 where
+  pub changes : edit.comes ≡ comes_at edit.found
   pub comes : next.comes ≡ edit.comes
   pub found : next.found ≡ found_next edit.found
 

@@ -1,5 +1,5 @@
 //! Runs of edits: rows that come to stand side by side, and rows that stood side by side and go.
-ghost use Rattle.std.specs.Prelude.{◌≡◌, ◌+◌, ◌<◌, ◌≤◌, length, drop, IsTrue};
+ghost use Rattle.std.specs.Prelude.{◌≡◌, ◌+◌, ◌-◌, ◌<◌, ◌≤◌, ◌↔◌, length, drop, IsTrue};
 ghost use Rattle.base_rows.specs.Edits.{AreFound};
 ghost use Rattle.base_rows.specs.Runs.{GoesOn, AreRun, AreMade};
 
@@ -9,7 +9,7 @@ use std::sync::ledger::Ledger;
 
 /// Whether the second edit goes on with the run of the first.
 fn goes_on<R: Sortable>(edit: &Edit<R>, next: &Edit<R>) -> bool
-    ensures { IsTrue result → GoesOn edit.now next.now }
+    ensures { IsTrue result ↔ GoesOn edit.now next.now }
 {
     match (edit.found, next.found) {
         (Err(index), Err(other)) => edit.comes && next.comes && other == index,
@@ -20,12 +20,14 @@ fn goes_on<R: Sortable>(edit: &Edit<R>, next: &Edit<R>) -> bool
     }
 }
 
-/// The index from which on the last of these edits are one run, not before `start`.
+/// The index from which on the last of these edits are one run, not before `start`. The edit before it
+/// isn't of that run.
 fn run_start<R: Sortable>(edits: &[Edit<R>], start: usize) -> usize
     requires { start < length edits.now }
     ensures start { start ≤ result }
     ensures end { result < length edits.now }
     ensures run { AreRun (drop result edits.now) }
+    ensures whole { start < result → ¬ (AreRun (drop (result - 1) edits.now)) }
 {
     let mut first = edits.len() - 1;
     while start < first && goes_on(&edits[first - 1], &edits[first]) {

@@ -2,7 +2,7 @@
 use Rattle.std.specs.Prelude.{ℕ, Bool}
 use Rattle.mud_world.specs.declared.clock.Clock as clock
 use Rattle.mud_world.specs.declared.keeper.Keeper.{Ghosts}
-use Rattle.mud_world.specs.Boxed.{faults_of}
+use Rattle.mud_world.specs.Kept.{faults_of}
 use Rattle.mud_world.specs.View.{DoorView}
 use Rattle.mud_desk.specs.DeskState.{session_of}
 use Rattle.http_requests.specs.declared.fault.MomentFrom.{MomentFrom}
@@ -14,7 +14,7 @@ use Rattle.console.specs.Answers.{fault_answer}
 use Rattle.console.specs.declared.console.Console.{Console}
 use Rattle.console.specs.States.{ConsoleState, ConsoleStep, IsAt, begun}
 
-module _ {X : Type 0} {F : X → Type 0} (members : (v : (x : X) × F x) → Ghosts (F v.0)) {C : Type 0} (clocks : clock.Ghosts C) (old new : Console C X F) where
+module _ {K : Type 0} (members : Ghosts K) {C : Type 0} (clocks : clock.Ghosts C) (old new : Console K C) where
   -- the state in which the console was
   abbrev pub state_before : ConsoleState
   state_before = begun (session_of old.desk.state) (clocks.moments old.clock.now)

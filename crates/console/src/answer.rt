@@ -1,13 +1,13 @@
 //! An answer as octets.
 ghost use Rattle.std.specs.Prelude.{◌≡◌, ◌++◌, [], ℕ, List, length, IfOk};
-ghost use Rattle.mud_world.specs.Boxed.{faults_of};
+ghost use Rattle.mud_world.specs.Kept.{faults_of};
 ghost use Rattle.mud_world.specs.Causes.{Counts};
 ghost use Rattle.http_requests.specs.declared.fault.MomentFrom.{MomentFrom};
 ghost use Rattle.http_requests.specs.Requests.{Request};
 ghost use Rattle.http_requests.specs.Parts.{AreParts};
 ghost use Rattle.mud_desk.specs.DeskState.{tables_of, session_of};
 ghost use Rattle.mud_desk.specs.Stays.{StaysKept};
-ghost use Rattle.desk_model.specs.Boxed.{IsKept};
+ghost use Rattle.desk_model.specs.Kept.{IsKept};
 ghost use Rattle.console.specs.Replies.{is_unavailable};
 ghost use Rattle.console.specs.Answers as spec;
 
@@ -18,6 +18,7 @@ use console_routes::Routes;
 use http_requests::{FramingFault, RequestFault, RequestParts, is_head};
 use mud_base::{Memory, Moment};
 use mud_desk::Desk;
+use mud_world::Keeper;
 use std::alloc::Global;
 use std::marker::Model;
 
@@ -108,19 +109,19 @@ fn fault_status(fault: FramingFault) -> Status
 /// 507, and a change that couldn't be kept with 503: all is then as it was. What stands for a change
 /// that was kept takes no memory.
 #[tactic(auto, unfolding(crate::specs::Answers::octets_of, console_answers::specs::Heads::answer_of))]
-pub fn answer_request(
+pub fn answer_request<K: Keeper>(
     alloc: Global,
-    desk: &mut Desk,
+    desk: &mut Desk<K>,
     answer: &mut Answer,
     request: &RequestParts<'_>,
     given: Moment,
     closes: bool,
 ) -> Status
-    requires kept { IsKept Keeper-dyn desk.old.keeper (tables_of desk.old.state) }
+    requires kept { IsKept ⟦<K as Keeper>⟧ desk.old.keeper (tables_of desk.old.state) }
     ensures answer { (from : MomentFrom) (r : Request) → AreParts from r request.now
         → spec.AllowedAnswer (session_of desk.old.state) given r closes result answer.new (session_of desk.new.state) }
-    ensures stays { StaysKept Keeper-dyn desk.old desk.new }
-    ensures cause { Counts (is_unavailable result) (faults_of Keeper-dyn desk.old.keeper) (faults_of Keeper-dyn desk.new.keeper) }
+    ensures stays { StaysKept ⟦<K as Keeper>⟧ desk.old desk.new }
+    ensures cause { Counts (is_unavailable result) (faults_of ⟦<K as Keeper>⟧ desk.old.keeper) (faults_of ⟦<K as Keeper>⟧ desk.new.keeper) }
 {
     let reply = reply_to(
         alloc,

@@ -1,13 +1,13 @@
 //! Commands: what an operator states, a usage file that was fetched, and what was heard.
 ghost use Rattle.std.specs.Prelude.{◌≡◌, false};
 ghost use Rattle.base_rows.specs.Ledgers.{IsBlankOf};
-ghost use Rattle.mud_world.specs.Boxed.{faults_of};
+ghost use Rattle.mud_world.specs.Kept.{faults_of};
 ghost use Rattle.mud_world.specs.Causes.{Counts};
 ghost use Rattle.desk_model.specs.Commands.{IsAsked};
 ghost use Rattle.desk_model.specs.Sessions.{AllowedReply, is_of_keeper};
 ghost use Rattle.mud_desk.specs.DeskState.{tables_of, session_of};
 ghost use Rattle.mud_desk.specs.Stays.{StaysKept};
-ghost use Rattle.desk_model.specs.Boxed.{IsKept};
+ghost use Rattle.desk_model.specs.Kept.{IsKept};
 ghost use Rattle.console.specs.Replies.{reply, is_unavailable, IsOrWanted};
 ghost use Rattle.console.specs.Requests.{AllowedCommand, outcome_body};
 ghost use Rattle.console_listings.specs.Refusals as refusals;
@@ -24,6 +24,7 @@ use desk_model::{Command, Outcome, Refusal, Reply};
 use dhcp_lldp::Heard;
 use mud_base::Moment;
 use mud_desk::Desk;
+use mud_world::Keeper;
 use std::alloc::Global;
 use std::marker::Brand;
 use std::sync::ledger::{Blank, Ledger};
@@ -38,27 +39,32 @@ pub(crate) enum Origin {
 }
 
 /// Runs a command, and counts its steps for nobody.
-fn run_counted<L: Ledger>(desk: &mut Desk, command: Command, given: Moment, blank: Blank) -> Reply
+fn run_counted<K: Keeper, L: Ledger>(
+    desk: &mut Desk<K>,
+    command: Command,
+    given: Moment,
+    blank: Blank,
+) -> Reply
     requires blank { IsBlankOf L.name L.parts blank }
-    requires kept { IsKept Keeper-dyn desk.old.keeper (tables_of desk.old.state) }
+    requires kept { IsKept ⟦<K as Keeper>⟧ desk.old.keeper (tables_of desk.old.state) }
     requires asked { IsAsked command }
     ensures answer { AllowedReply (session_of desk.old.state) given command result (session_of desk.new.state) }
-    ensures stays { StaysKept Keeper-dyn desk.old desk.new }
-    ensures cause { Counts (is_of_keeper result) (faults_of Keeper-dyn desk.old.keeper) (faults_of Keeper-dyn desk.new.keeper) }
+    ensures stays { StaysKept ⟦<K as Keeper>⟧ desk.old desk.new }
+    ensures cause { Counts (is_of_keeper result) (faults_of ⟦<K as Keeper>⟧ desk.old.keeper) (faults_of ⟦<K as Keeper>⟧ desk.new.keeper) }
 {
     let mut steps = Steps::<L>::new(blank);
     desk.command(command, given, &mut steps)
 }
 
 /// Runs a command.
-fn run(desk: &mut Desk, command: Command, given: Moment) -> Reply
-    requires kept { IsKept Keeper-dyn desk.old.keeper (tables_of desk.old.state) }
+fn run<K: Keeper>(desk: &mut Desk<K>, command: Command, given: Moment) -> Reply
+    requires kept { IsKept ⟦<K as Keeper>⟧ desk.old.keeper (tables_of desk.old.state) }
     requires asked { IsAsked command }
     ensures answer { AllowedReply (session_of desk.old.state) given command result (session_of desk.new.state) }
-    ensures stays { StaysKept Keeper-dyn desk.old desk.new }
-    ensures cause { Counts (is_of_keeper result) (faults_of Keeper-dyn desk.old.keeper) (faults_of Keeper-dyn desk.new.keeper) }
+    ensures stays { StaysKept ⟦<K as Keeper>⟧ desk.old desk.new }
+    ensures cause { Counts (is_of_keeper result) (faults_of ⟦<K as Keeper>⟧ desk.old.keeper) (faults_of ⟦<K as Keeper>⟧ desk.new.keeper) }
 {
-    run_counted::<Brand>(desk, command, given, Blank::new(1))
+    run_counted::<K, Brand>(desk, command, given, Blank::new(1))
 }
 
 /// Writes what is told of a command that was asked for and carried out.
@@ -122,20 +128,20 @@ fn write_reply(alloc: Global, body: &mut BodyText, origin: &Origin, answered: Re
 /// Carries a command out. What it changes is kept before it is answered, and the answer of a command
 /// that was carried out takes no memory.
 #[tactic(auto, using(crate::proofs::Carrying::stands))]
-pub(crate) fn answer_command(
+pub(crate) fn answer_command<K: Keeper>(
     alloc: Global,
-    desk: &mut Desk,
+    desk: &mut Desk<K>,
     body: &mut BodyText,
     origin: Origin,
     command: Command,
     given: Moment,
 ) -> Status
-    requires kept { IsKept Keeper-dyn desk.old.keeper (tables_of desk.old.state) }
+    requires kept { IsKept ⟦<K as Keeper>⟧ desk.old.keeper (tables_of desk.old.state) }
     requires asked { IsAsked command }
     requires texts { HasTexts origin }
     ensures reply { AllowedCommand (said_of origin) (session_of desk.old.state) given command (reply result body.new) (session_of desk.new.state) }
-    ensures stays { StaysKept Keeper-dyn desk.old desk.new }
-    ensures cause { Counts (is_unavailable result) (faults_of Keeper-dyn desk.old.keeper) (faults_of Keeper-dyn desk.new.keeper) }
+    ensures stays { StaysKept ⟦<K as Keeper>⟧ desk.old desk.new }
+    ensures cause { Counts (is_unavailable result) (faults_of ⟦<K as Keeper>⟧ desk.old.keeper) (faults_of ⟦<K as Keeper>⟧ desk.new.keeper) }
 {
     let answered = run(desk, command, given);
     write_reply(alloc, body, &origin, answered)

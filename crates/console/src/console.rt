@@ -8,7 +8,6 @@ use mud_base::Moment;
 use mud_desk::Desk;
 use mud_world::{Clock, Keeper};
 use std::alloc::Global;
-use std::marker::PhantomData;
 
 /// The moment at which a request is taken: its own, and the clock's next one where it gives none.
 fn moment_for<C: Clock>(request: &RequestParts<'_>, clock: &mut C) -> Moment
@@ -22,40 +21,34 @@ fn moment_for<C: Clock>(request: &RequestParts<'_>, clock: &mut C) -> Moment
 
 /// A desk that answers requests, its last answer, and the clock by which requests are taken that
 /// give no moment. The clock is lent.
-pub struct Console<'a, C: Clock> {
+pub struct Console<'a, K: Keeper, C: Clock> {
     /// What memory is asked of.
     pub alloc: Global,
     /// The desk.
-    pub desk: Desk,
+    pub desk: Desk<K>,
     /// The last answer.
     pub answer: Answer,
     /// The clock.
     pub clock: &'a mut C,
-    /// The desk's keeper is a boxed one.
-    pub keeper: PhantomData<Box<dyn Keeper>>,
 }
 
-impl<C: Clock> Service for Console<'_, C> {
-    ghost use Rattle.std.specs.Prelude.{◌≡◌, ℕ, ◌++◌, IsTrue};
-    ghost use Rattle.desk_model.specs.Items.{items_of};
+impl<K: Keeper, C: Clock> Service for Console<'_, K, C> {
+    ghost use Rattle.std.specs.Prelude.{◌≡◌, ℕ, ◌++◌};
+    ghost use Rattle.desk_model.specs.Kept.{IsKept};
     ghost use Rattle.mud_desk.specs.DeskState.{tables_of};
     ghost use Rattle.console.specs.Answers.{fault_answer};
     ghost use Rattle.console.specs.States.{ConsoleState, ConsoleStep, IsAt};
     ghost use Rattle.console.specs.Beside.{StepBeside};
 
-    ghost ready = { λ it. IsTrue ((Keeper-box it.desk.keeper).opened it.desk.keeper.value)
-        × ((Keeper-box it.desk.keeper).tells it.desk.keeper.value
-        → (Keeper-box it.desk.keeper).items it.desk.keeper.value ≡ items_of (tables_of it.desk.state)) };
+    ghost ready = { λ it. IsKept ⟦<K as Keeper>⟧ it.desk.keeper (tables_of it.desk.state) };
 
     ghost State = { ConsoleState × Self };
 
     ghost keeps = { λ it s. IsAt C.tells it.desk.state (C.moments it.clock.now)
-        ((Keeper-box s.1.desk.keeper).faults s.1.desk.keeper.value)
-        ((Keeper-box it.desk.keeper).faults it.desk.keeper.value) s.0
-        × ((Keeper-box it.desk.keeper).tells it.desk.keeper.value
-        → (Keeper-box s.1.desk.keeper).tells s.1.desk.keeper.value)
-        × (it.desk.keeper.vtable ≡ s.1.desk.keeper.vtable)
-        × (it.desk.keeper.ptr ≡ s.1.desk.keeper.ptr)
+        (K.faults s.1.desk.keeper)
+        (K.faults it.desk.keeper) s.0
+        × (K.tells it.desk.keeper
+        → K.tells s.1.desk.keeper)
         × (it.clock.ghost_name ≡ s.1.clock.ghost_name) };
 
     ghost may = { StepBeside (ConsoleStep C.tells) };

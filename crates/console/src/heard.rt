@@ -1,5 +1,5 @@
 //! What was heard of a Thing.
-ghost use Rattle.mud_world.specs.Boxed.{faults_of};
+ghost use Rattle.mud_world.specs.Kept.{faults_of};
 ghost use Rattle.mud_world.specs.Causes.{Counts};
 ghost use Rattle.desk_model.specs.Commands.{IsAsked};
 ghost use Rattle.desk_model.specs.Sessions.{raised};
@@ -7,7 +7,7 @@ ghost use Rattle.console_bodies.specs.Bodies as bodies;
 ghost use Rattle.console_answers.specs.Bodies.Heards as heards;
 ghost use Rattle.mud_desk.specs.DeskState.{tables_of, session_of};
 ghost use Rattle.mud_desk.specs.Stays.{StaysKept};
-ghost use Rattle.desk_model.specs.Boxed.{IsKept};
+ghost use Rattle.desk_model.specs.Kept.{IsKept};
 ghost use Rattle.console.specs.Replies.{reply, replied, is_unavailable, IsOrFailed};
 ghost use Rattle.console.specs.Requests.{AllowedCommand, AllowedHeard};
 
@@ -22,24 +22,25 @@ use desk_model::Command;
 use dhcp_lldp::Heard;
 use mud_base::{Memory, Moment};
 use mud_desk::Desk;
+use mud_world::Keeper;
 use std::alloc::Global;
 
 /// Takes what was heard by the command for it. The texts of the answer are made before.
 #[tactic(auto, using(crate::proofs::Standing::wanted), unfolding(crate::specs::Origins::said_of))]
-fn take_heard(
+fn take_heard<K: Keeper>(
     alloc: Global,
-    desk: &mut Desk,
+    desk: &mut Desk<K>,
     body: &mut BodyText,
     heard: &Heard,
     command: Command,
     given: Moment,
 ) -> Status
-    requires kept { IsKept Keeper-dyn desk.old.keeper (tables_of desk.old.state) }
+    requires kept { IsKept ⟦<K as Keeper>⟧ desk.old.keeper (tables_of desk.old.state) }
     requires asked { IsAsked command }
     ensures reply { AllowedCommand (heards.heard_body heard.now) (session_of desk.old.state) given command
         (reply result body.new) (session_of desk.new.state) }
-    ensures stays { StaysKept Keeper-dyn desk.old desk.new }
-    ensures cause { Counts (is_unavailable result) (faults_of Keeper-dyn desk.old.keeper) (faults_of Keeper-dyn desk.new.keeper) }
+    ensures stays { StaysKept ⟦<K as Keeper>⟧ desk.old desk.new }
+    ensures cause { Counts (is_unavailable result) (faults_of ⟦<K as Keeper>⟧ desk.old.keeper) (faults_of ⟦<K as Keeper>⟧ desk.new.keeper) }
 {
     match heard_texts(alloc, heard) {
         Ok(texts) => {
@@ -51,12 +52,12 @@ fn take_heard(
 }
 
 /// Says that a message says nothing, which raises the moment of the session.
-fn answer_nothing(desk: &mut Desk, body: &mut BodyText, given: Moment) -> Status
-    requires kept { IsKept Keeper-dyn desk.old.keeper (tables_of desk.old.state) }
+fn answer_nothing<K: Keeper>(desk: &mut Desk<K>, body: &mut BodyText, given: Moment) -> Status
+    requires kept { IsKept ⟦<K as Keeper>⟧ desk.old.keeper (tables_of desk.old.state) }
     ensures reply { IsOrFailed ⊥ (session_of desk.old.state) (replied (reply Status.Done heards.nothing_body) (raised (session_of desk.old.state) given))
         (reply result body.new) (session_of desk.new.state) }
-    ensures stays { StaysKept Keeper-dyn desk.old desk.new }
-    ensures cause { Counts (is_unavailable result) (faults_of Keeper-dyn desk.old.keeper) (faults_of Keeper-dyn desk.new.keeper) }
+    ensures stays { StaysKept ⟦<K as Keeper>⟧ desk.old desk.new }
+    ensures cause { Counts (is_unavailable result) (faults_of ⟦<K as Keeper>⟧ desk.old.keeper) (faults_of ⟦<K as Keeper>⟧ desk.new.keeper) }
 {
     raise(desk, given);
     body.write_nothing_heard();
@@ -65,18 +66,18 @@ fn answer_nothing(desk: &mut Desk, body: &mut BodyText, given: Moment) -> Status
 
 /// Takes what was heard.
 #[tactic(auto, using(crate::proofs::Standing::heard_asked), unfolding(console_bodies::specs::Bodies::heard_command))]
-pub(crate) fn answer_heard(
+pub(crate) fn answer_heard<K: Keeper>(
     alloc: Global,
-    desk: &mut Desk,
+    desk: &mut Desk<K>,
     body: &mut BodyText,
     heard: &Heard,
     given: Moment,
 ) -> Status
-    requires kept { IsKept Keeper-dyn desk.old.keeper (tables_of desk.old.state) }
+    requires kept { IsKept ⟦<K as Keeper>⟧ desk.old.keeper (tables_of desk.old.state) }
     ensures reply { AllowedHeard (session_of desk.old.state) given heard.now (bodies.heard_command heard.now)
         (reply result body.new) (session_of desk.new.state) }
-    ensures stays { StaysKept Keeper-dyn desk.old desk.new }
-    ensures cause { Counts (is_unavailable result) (faults_of Keeper-dyn desk.old.keeper) (faults_of Keeper-dyn desk.new.keeper) }
+    ensures stays { StaysKept ⟦<K as Keeper>⟧ desk.old desk.new }
+    ensures cause { Counts (is_unavailable result) (faults_of ⟦<K as Keeper>⟧ desk.old.keeper) (faults_of ⟦<K as Keeper>⟧ desk.new.keeper) }
 {
     match heard_command(*heard) {
         Some(command) => take_heard(alloc, desk, body, heard, command, given),

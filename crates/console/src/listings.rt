@@ -1,10 +1,10 @@
 //! Listings.
 ghost use Rattle.std.specs.Prelude.{◌≡◌, IfOk};
-ghost use Rattle.mud_world.specs.Boxed.{faults_of};
+ghost use Rattle.mud_world.specs.Kept.{faults_of};
 ghost use Rattle.mud_world.specs.Causes.{Counts};
 ghost use Rattle.mud_desk.specs.DeskState.{tables_of, session_of};
 ghost use Rattle.mud_desk.specs.Stays.{StaysKept};
-ghost use Rattle.desk_model.specs.Boxed.{IsKept};
+ghost use Rattle.desk_model.specs.Kept.{IsKept};
 ghost use Rattle.console.specs.Listings as spec;
 ghost use Rattle.console.specs.Replies.{reply, is_unavailable, IsOrFailed};
 ghost use Rattle.console.specs.Requests.{by_listing};
@@ -18,11 +18,17 @@ use console_listings::{classes_body, files_body, locals_body, names_body, things
 use console_routes::Listing;
 use mud_base::{Bytes, Memory, Moment};
 use mud_desk::Desk;
+use mud_world::Keeper;
 use std::alloc::Global;
 
 /// The rows of a desk at a moment.
 #[tactic(auto, unfolding(crate::specs::Listings::listing_text))]
-fn listing_text(alloc: Global, desk: &Desk, listing: Listing, now: Moment) -> Result<Bytes, Memory>
+fn listing_text<K: Keeper>(
+    alloc: Global,
+    desk: &Desk<K>,
+    listing: Listing,
+    now: Moment,
+) -> Result<Bytes, Memory>
     ensures { IfOk result (λ text. text ≡ spec.listing_text listing (tables_of desk.now.state) now) }
 {
     match listing {
@@ -36,18 +42,18 @@ fn listing_text(alloc: Global, desk: &Desk, listing: Listing, now: Moment) -> Re
 }
 
 /// Lists rows, which raises the moment of the session.
-pub(crate) fn answer_listing(
+pub(crate) fn answer_listing<K: Keeper>(
     alloc: Global,
-    desk: &mut Desk,
+    desk: &mut Desk<K>,
     body: &mut BodyText,
     listing: Listing,
     given: Moment,
 ) -> Status
-    requires kept { IsKept Keeper-dyn desk.old.keeper (tables_of desk.old.state) }
+    requires kept { IsKept ⟦<K as Keeper>⟧ desk.old.keeper (tables_of desk.old.state) }
     ensures reply { IsOrFailed ⊥ (session_of desk.old.state) (by_listing (session_of desk.old.state) given listing)
         (reply result body.new) (session_of desk.new.state) }
-    ensures stays { StaysKept Keeper-dyn desk.old desk.new }
-    ensures cause { Counts (is_unavailable result) (faults_of Keeper-dyn desk.old.keeper) (faults_of Keeper-dyn desk.new.keeper) }
+    ensures stays { StaysKept ⟦<K as Keeper>⟧ desk.old desk.new }
+    ensures cause { Counts (is_unavailable result) (faults_of ⟦<K as Keeper>⟧ desk.old.keeper) (faults_of ⟦<K as Keeper>⟧ desk.new.keeper) }
 {
     let now = later(desk.moment(), given);
     match listing_text(alloc, desk, listing, now) {

@@ -1,11 +1,11 @@
 //! Frames that pass or are dropped.
 ghost use Rattle.std.specs.Prelude.{◌≡◌};
-ghost use Rattle.mud_world.specs.Boxed.{faults_of};
+ghost use Rattle.mud_world.specs.Kept.{faults_of};
 ghost use Rattle.mud_world.specs.Causes.{Counts};
 ghost use Rattle.desk_model.specs.Sessions.{frame_in, IsNoted};
 ghost use Rattle.mud_desk.specs.DeskState.{tables_of, session_of};
 ghost use Rattle.mud_desk.specs.Stays.{StaysKept};
-ghost use Rattle.desk_model.specs.Boxed.{IsKept};
+ghost use Rattle.desk_model.specs.Kept.{IsKept};
 ghost use Rattle.console.specs.Replies.{reply, is_unavailable, IsOrFailed};
 ghost use Rattle.console.specs.Requests.{by_verdict};
 
@@ -15,20 +15,21 @@ use crate::session::judge;
 use console_answers::Status;
 use mud_base::{Memory, Moment};
 use mud_desk::Desk;
+use mud_world::Keeper;
 
 /// Judges a frame. Memory is wanted only for a TCP packet of a Thing that is forwarded.
-pub(crate) fn answer_frame(
-    desk: &mut Desk,
+pub(crate) fn answer_frame<K: Keeper>(
+    desk: &mut Desk<K>,
     body: &mut BodyText,
     frame: &[u8],
     given: Moment,
 ) -> Status
-    requires kept { IsKept Keeper-dyn desk.old.keeper (tables_of desk.old.state) }
+    requires kept { IsKept ⟦<K as Keeper>⟧ desk.old.keeper (tables_of desk.old.state) }
     ensures reply { IsOrFailed ⊥ (session_of desk.old.state) (by_verdict (frame_in (session_of desk.old.state) given frame.now))
         (reply result body.new) (session_of desk.new.state) }
     ensures wanted { result ≡ Status.NoStorage → IsNoted (session_of desk.old.state) given frame.now }
-    ensures stays { StaysKept Keeper-dyn desk.old desk.new }
-    ensures cause { Counts (is_unavailable result) (faults_of Keeper-dyn desk.old.keeper) (faults_of Keeper-dyn desk.new.keeper) }
+    ensures stays { StaysKept ⟦<K as Keeper>⟧ desk.old desk.new }
+    ensures cause { Counts (is_unavailable result) (faults_of ⟦<K as Keeper>⟧ desk.old.keeper) (faults_of ⟦<K as Keeper>⟧ desk.new.keeper) }
 {
     match judge(desk, frame, given) {
         Ok(verdict) => {

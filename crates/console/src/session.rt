@@ -1,15 +1,16 @@
 //! Calls of a desk as they are seen in its session.
 ghost use Rattle.std.specs.Prelude.{◌≡◌, ◌<◌, max};
 ghost use Rattle.base_rows.specs.Ledgers.{IsBlankOf};
-ghost use Rattle.mud_world.specs.Boxed.{faults_of};
+ghost use Rattle.mud_world.specs.Kept.{faults_of};
 ghost use Rattle.desk_model.specs.Sessions.{AllowedVerdict, raised};
 ghost use Rattle.mud_desk.specs.DeskState.{tables_of, session_of};
 ghost use Rattle.mud_desk.specs.Stays.{StaysKept};
-ghost use Rattle.desk_model.specs.Boxed.{IsKept};
+ghost use Rattle.desk_model.specs.Kept.{IsKept};
 
 use base_rows::Steps;
 use mud_base::{Memory, Moment};
 use mud_desk::Desk;
+use mud_world::Keeper;
 use packet_judge::Verdict;
 use std::marker::Brand;
 use std::sync::ledger::{Blank, Ledger};
@@ -23,38 +24,42 @@ pub(crate) fn later(a: Moment, b: Moment) -> Moment
 
 /// Makes the later of the session's moment and this one the moment of the session.
 #[tactic(auto, unfolding(mud_desk::specs::DeskState::session_of, mud_desk::specs::DeskState::tables_of, desk_model::specs::Sessions::raised, desk_model::specs::Sessions::later))]
-pub(crate) fn raise(desk: &mut Desk, given: Moment)
-    requires kept { IsKept Keeper-dyn desk.old.keeper (tables_of desk.old.state) }
+pub(crate) fn raise<K: Keeper>(desk: &mut Desk<K>, given: Moment)
+    requires kept { IsKept ⟦<K as Keeper>⟧ desk.old.keeper (tables_of desk.old.state) }
     ensures raised { session_of desk.new.state ≡ raised (session_of desk.old.state) given }
-    ensures stays { StaysKept Keeper-dyn desk.old desk.new }
-    ensures steady { faults_of Keeper-dyn desk.new.keeper ≡ faults_of Keeper-dyn desk.old.keeper }
+    ensures stays { StaysKept ⟦<K as Keeper>⟧ desk.old desk.new }
+    ensures steady { faults_of ⟦<K as Keeper>⟧ desk.new.keeper ≡ faults_of ⟦<K as Keeper>⟧ desk.old.keeper }
 {
     let _moment = desk.raise(given);
 }
 
 /// Judges a frame, and counts the steps for nobody.
-fn judge_counted<L: Ledger>(
-    desk: &mut Desk,
+fn judge_counted<K: Keeper, L: Ledger>(
+    desk: &mut Desk<K>,
     frame: &[u8],
     given: Moment,
     blank: Blank,
 ) -> Result<Verdict, Memory>
     requires blank { IsBlankOf L.name L.parts blank }
-    requires kept { IsKept Keeper-dyn desk.old.keeper (tables_of desk.old.state) }
+    requires kept { IsKept ⟦<K as Keeper>⟧ desk.old.keeper (tables_of desk.old.state) }
     ensures judged { AllowedVerdict (session_of desk.old.state) given frame.now result (session_of desk.new.state) }
-    ensures stays { StaysKept Keeper-dyn desk.old desk.new }
-    ensures steady { faults_of Keeper-dyn desk.new.keeper ≡ faults_of Keeper-dyn desk.old.keeper }
+    ensures stays { StaysKept ⟦<K as Keeper>⟧ desk.old desk.new }
+    ensures steady { faults_of ⟦<K as Keeper>⟧ desk.new.keeper ≡ faults_of ⟦<K as Keeper>⟧ desk.old.keeper }
 {
     let mut steps = Steps::<L>::new(blank);
     desk.judge(frame, given, &mut steps)
 }
 
 /// Judges a frame.
-pub(crate) fn judge(desk: &mut Desk, frame: &[u8], given: Moment) -> Result<Verdict, Memory>
-    requires kept { IsKept Keeper-dyn desk.old.keeper (tables_of desk.old.state) }
+pub(crate) fn judge<K: Keeper>(
+    desk: &mut Desk<K>,
+    frame: &[u8],
+    given: Moment,
+) -> Result<Verdict, Memory>
+    requires kept { IsKept ⟦<K as Keeper>⟧ desk.old.keeper (tables_of desk.old.state) }
     ensures judged { AllowedVerdict (session_of desk.old.state) given frame.now result (session_of desk.new.state) }
-    ensures stays { StaysKept Keeper-dyn desk.old desk.new }
-    ensures steady { faults_of Keeper-dyn desk.new.keeper ≡ faults_of Keeper-dyn desk.old.keeper }
+    ensures stays { StaysKept ⟦<K as Keeper>⟧ desk.old desk.new }
+    ensures steady { faults_of ⟦<K as Keeper>⟧ desk.new.keeper ≡ faults_of ⟦<K as Keeper>⟧ desk.old.keeper }
 {
-    judge_counted::<Brand>(desk, frame, given, Blank::new(1))
+    judge_counted::<K, Brand>(desk, frame, given, Blank::new(1))
 }

@@ -12,6 +12,7 @@ use console_answers::Status;
 use console_listings::{RuledEndpoint, why_body};
 use mud_base::{Bytes, Memory, Moment};
 use mud_desk::{Desk, Findings, RuledThing};
+use mud_world::Keeper;
 use std::alloc::Global;
 
 /// An endpoint as a body tells it.
@@ -41,9 +42,9 @@ fn told_endpoints(alloc: Global, findings: &Findings<'_>) -> Result<Bytes, Memor
 }
 
 /// Tells what decides a frame. Nothing is changed, the moment of the session neither.
-pub(crate) fn answer_why(
+pub(crate) fn answer_why<K: Keeper>(
     alloc: Global,
-    desk: &Desk,
+    desk: &Desk<K>,
     body: &mut BodyText,
     frame: &[u8],
     given: Moment,

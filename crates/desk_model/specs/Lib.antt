@@ -6,6 +6,6 @@ pub mod Items
 pub mod Keeping
 pub mod Verdicts
 pub mod Sessions
-pub mod Boxed
+pub mod Kept
 pub mod Findings
 pub mod Texts

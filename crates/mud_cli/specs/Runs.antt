@@ -1,7 +1,5 @@
 -- What a run of each command does.
 use Rattle.std.specs.Prelude.{◌≡◌, ◌≢◌, ℕ, Bool, true, false, IsTrue, List, Some}
-use Rattle.std.specs.declared.dyn_box.DynBox.{DynBox}
-use Rattle.std.specs.declared.alloc.Global.{Global}
 use Rattle.mud_world.specs.declared.clock.Clock as clock
 use Rattle.mud_world.specs.declared.door.Door as door
 use Rattle.mud_world.specs.declared.keeper.Keeper.{Ghosts}
@@ -43,22 +41,33 @@ AsTold said words = (command : Command) → command_in words ≡ Some command �
 
 -- the commands that ask the clock
 abbrev pub asks_clock : Command → Bool
+asks_clock (Hear message) = false
+asks_clock Check = false
+asks_clock Frames = false
+asks_clock Judge = false
+asks_clock Snoop = false
+asks_clock Tally = false
 asks_clock Import = true
+asks_clock Replay = false
 asks_clock (Serve port count) = true
 asks_clock (Report kind) = true
 asks_clock (Export mac) = true
-asks_clock _ = false
+asks_clock (Drill packets) = false
 
 -- the commands that neither read nor write where the keeper fails
 abbrev pub is_silent : Command → Bool
+is_silent (Hear message) = false
+is_silent Check = false
+is_silent Frames = false
 is_silent Judge = true
+is_silent Snoop = false
 is_silent Tally = true
+is_silent Import = false
 is_silent Replay = true
 is_silent (Serve port count) = true
 is_silent (Report kind) = true
 is_silent (Export mac) = true
 is_silent (Drill packets) = true
-is_silent _ = false
 
 -- Whatever the status: a command that opens no store makes no call on the keeper, the folder is for `import` alone, and the clock for
 -- those that ask it. Where the keeper failed, the door isn't called by a silent command.
@@ -70,9 +79,9 @@ pub record LeavesAlone {K D P C : Type 0} (keeper returned : K) (old new : World
 
 -- ---- What is done
 
-module _ {X : Type 0} {F : X → Type 0} (members : (v : (x : X) × F x) → Ghosts (F v.0))
+module _ {K : Type 0} (members : Ghosts K)
     {D P C : Type 0} (doors : door.Ghosts D) (spools : spool.Ghosts P) (clocks : clock.Ghosts C)
-    (keeper returned : DynBox X Global F) (old new : World D P C) (status : ℕ) where
+    (keeper returned : K) (old new : World D P C) (status : ℕ) where
   abbrev pub seen : World D P C → OutsideView
   seen it = outside (doors.view it.door) (spools.view it.spool) (clocks.moments it.clock)
 

@@ -22,16 +22,16 @@ use run_words::{Command, command_of};
 use std::alloc::Global;
 
 /// Runs a command.
-fn run_command<D: Door, P: Spool, C: Clock>(
+fn run_command<K: Keeper, D: Door, P: Spool, C: Clock>(
     alloc: Global,
     command: Command,
-    keeper: Box<dyn Keeper>,
+    keeper: K,
     door: &mut D,
     spool: &mut P,
     clock: &mut C,
-) -> (Status, Box<dyn Keeper>)
+) -> (Status, K)
     ensures listed { IsNot Unlisted (status_number result.0) }
-    ensures does { Does Keeper-dyn ⟦<D as Door>⟧ ⟦<P as Spool>⟧ ⟦<C as Clock>⟧ keeper result.1
+    ensures does { Does ⟦<K as Keeper>⟧ ⟦<D as Door>⟧ ⟦<P as Spool>⟧ ⟦<C as Clock>⟧ keeper result.1
         (world door.old spool.old clock.old) (world door.new spool.new clock.new) (status_number result.0) command }
     ensures alone { LeavesAlone keeper result.1
         (world door.old spool.old clock.old) (world door.new spool.new clock.new) (status_number result.0) command }
@@ -54,8 +54,8 @@ fn run_command<D: Door, P: Spool, C: Clock>(
     }
 }
 
-/// Runs the program on the words after its name, and answers its status and the box that it was
-/// given. A run that opens no store makes no call on the keeper. One that opens a store does so
+/// Runs the program on the words after its name, and answers its status and the keeper that it
+/// was given. A run that opens no store makes no call on the keeper. One that opens a store does so
 /// before it binds a port, reads the door or lists the spool.
 ///
 /// | Status | It comes |
@@ -67,20 +67,20 @@ fn run_command<D: Door, P: Spool, C: Clock>(
 /// | 5 | want of memory; of `replay` and `serve`, before a connection is read |
 /// | 6 | an item of the store is no record, and the line that names it was written; where it wasn't written whole it is 4 or 5 |
 /// | 7 | only where the keeper failed in this call: of `import`, `drill` and `snoop` in any call, else in the opening |
-pub fn mud_main<D: Door, P: Spool, C: Clock>(
+pub fn mud_main<K: Keeper, D: Door, P: Spool, C: Clock>(
     alloc: Global,
     words: &[String],
-    keeper: Box<dyn Keeper>,
+    keeper: K,
     door: &mut D,
     spool: &mut P,
     clock: &mut C,
-) -> (u8, Box<dyn Keeper>)
+) -> (u8, K)
     // Of every line of words: 2 says that it isn't listed, and then nothing is touched.
     ensures words { Is Unlisted result.0 ↔ (command_in (words_of words.now) ≡ None) }
     ensures untouched { Is Unlisted result.0 → (result.1 ≡ keeper)
         × (world door.new spool.new clock.new ≡ world door.old spool.old clock.old) }
     // A listed command does what its record says, and leaves alone what isn't its own.
-    ensures does { AsTold (Does Keeper-dyn ⟦<D as Door>⟧ ⟦<P as Spool>⟧ ⟦<C as Clock>⟧ keeper result.1
+    ensures does { AsTold (Does ⟦<K as Keeper>⟧ ⟦<D as Door>⟧ ⟦<P as Spool>⟧ ⟦<C as Clock>⟧ keeper result.1
         (world door.old spool.old clock.old) (world door.new spool.new clock.new) result.0) (words_of words.now) }
     ensures alone { AsTold (LeavesAlone keeper result.1
         (world door.old spool.old clock.old) (world door.new spool.new clock.new) result.0) (words_of words.now) }

@@ -1,4 +1,4 @@
-pub mod Boxes
+pub mod Keepers
 pub mod Found
 pub mod Notes
 pub mod Numbered

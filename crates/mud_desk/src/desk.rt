@@ -1,6 +1,6 @@
 //! The desk, and the keeper that it keeps its lists in.
 ghost use Rattle.std.specs.Prelude.{◌≡◌, ℕ, ◌+◌, ◌-◌, ◌^◌, ◌<◌, ◌≤◌, max, [], List, Ok, IfOk, IfErr, length};
-ghost use Rattle.mud_world.specs.Boxed.{faults_of, Tells, kept_items};
+ghost use Rattle.mud_world.specs.Kept.{faults_of, Tells, kept_items, Rests};
 ghost use Rattle.mud_world.specs.Causes.{Counts};
 ghost use Rattle.table_model.specs.Things.{thing_at};
 ghost use Rattle.frame_view.specs.Frame.{frame_of};
@@ -18,7 +18,7 @@ ghost use Rattle.mud_desk.specs.Items.Opening.{IsFaultOf};
 ghost use Rattle.mud_desk.specs.RuleInputs.{rows_read, ruling_steps};
 ghost use Rattle.mud_desk.specs.Findings.{AreFindingsOn};
 ghost use Rattle.mud_desk.specs.DeskState.{tables_of, session_of, AreRulesOf};
-ghost use Rattle.desk_model.specs.Boxed.{IsKept, IsSameBox};
+ghost use Rattle.desk_model.specs.Kept.{IsKept};
 ghost use Rattle.mud_desk.specs.Stays.{StaysKept};
 ghost use Rattle.mud_desk.specs.Answers.{is_fault_of_keeper, StaysUnlessDone, IsLeft, IsPaidOnce};
 
@@ -41,13 +41,13 @@ use usage_tables::CachedFile;
 
 /// The manager's lists and what is compiled of them, the connections that were forwarded, the moment
 /// of the session, and the keeper in which the lists are kept.
-pub struct Desk {
-    keeper: Box<dyn Keeper>,
+pub struct Desk<K: Keeper> {
+    keeper: K,
     state: State,
 }
 
 // It is written out, so that a crate that lets a desk go doesn't prove again how each part is dropped.
-impl Drop for Desk {
+impl<K: Keeper> Drop for Desk<K> {
     fn drop(self) {
         let Desk {
             keeper: _,
@@ -56,38 +56,32 @@ impl Drop for Desk {
     }
 }
 
-impl Desk {
+impl<K: Keeper> Desk<K> {
     /// Opens a keeper: the desk has the lists that its items are, and a session begins. Where an item
     /// is no record, the first one in the keeper's order is named, and nothing was written. Each
     /// Thing whose record is of the first version is written anew in the second; the lists and the
-    /// moment of their last change stay. A refusal hands the box back. Nothing was taken before:
+    /// moment of their last change stay. A refusal hands the keeper back. Nothing was taken before:
     /// [`Loaded::new`].
-    ///
-    /// Without that condition a caller in another crate would have to reckon with another keeper in
-    /// the box. So it is with that of each call that takes the desk to change it, or gives the box back.
     #[tactic(auto, using(crate::proofs::Opening::left_of))]
-    pub fn open(
-        alloc: Global,
-        keeper: Box<dyn Keeper>,
-        nothing: Loaded,
-    ) -> Result<Desk, (OpenFault, Box<dyn Keeper>)>
+    pub fn open(alloc: Global, keeper: K, nothing: Loaded) -> Result<Desk<K>, (OpenFault, K)>
         requires { kept_of nothing ≡ none_kept }
         // The desk's lists are those that the keeper's items kept before, and are kept now.
-        ensures tables { Tells Keeper-dyn keeper → IfOk result (λ desk. Tells Keeper-dyn desk.keeper
-            → KeepsDesk (kept_items Keeper-dyn keeper) (tables_of desk.state)) }
+        ensures tables { Tells ⟦<K as Keeper>⟧ keeper → IfOk result (λ desk. Tells ⟦<K as Keeper>⟧ desk.keeper
+            → KeepsDesk (kept_items ⟦<K as Keeper>⟧ keeper) (tables_of desk.state)) }
+        ensures told { IfOk result (λ desk. Tells ⟦<K as Keeper>⟧ desk.keeper → Tells ⟦<K as Keeper>⟧ keeper) }
         ensures sound { IfOk result (λ desk. IsSound (tables_of desk.state)) }
-        ensures kept { IfOk result (λ desk. IsKept Keeper-dyn desk.keeper (tables_of desk.state)) }
+        ensures rests { IfOk result (λ desk. Tells ⟦<K as Keeper>⟧ desk.keeper → Rests ⟦<K as Keeper>⟧ desk.keeper) }
+        ensures kept { IfOk result (λ desk. IsKept ⟦<K as Keeper>⟧ desk.keeper (tables_of desk.state)) }
         ensures begun { IfOk result (λ desk. session_of desk.state ≡ sessions.opened (tables_of desk.state)) }
-        ensures steady { IfOk result (λ desk. faults_of Keeper-dyn desk.keeper ≡ faults_of Keeper-dyn keeper) }
-        ensures same_box { IfOk result (λ desk. IsSameBox keeper desk.keeper) }
+        ensures steady { IfOk result (λ desk. faults_of ⟦<K as Keeper>⟧ desk.keeper ≡ faults_of ⟦<K as Keeper>⟧ keeper) }
         // An item is named where it is the first that is no record, and else the desk isn't opened for a
         // failure of the keeper or for want of memory.
-        ensures bad { IfErr result (λ refusal. Tells Keeper-dyn refusal.1
-            → IsFaultOf (kept_items Keeper-dyn refusal.1) refusal.0) }
-        ensures left { Tells Keeper-dyn keeper → IfErr result (λ refusal. Tells Keeper-dyn refusal.1
-            → IsLeft (kept_items Keeper-dyn keeper) (kept_items Keeper-dyn refusal.1) refusal.0) }
-        ensures cause { IfErr result (λ refusal. Counts (is_fault_of_keeper refusal.0) (faults_of Keeper-dyn keeper) (faults_of Keeper-dyn refusal.1)) }
-        ensures handed_back { IfErr result (λ refusal. IsSameBox keeper refusal.1) }
+        ensures bad { IfErr result (λ refusal. Tells ⟦<K as Keeper>⟧ refusal.1
+            → IsFaultOf (kept_items ⟦<K as Keeper>⟧ refusal.1) refusal.0) }
+        ensures left { Tells ⟦<K as Keeper>⟧ keeper → IfErr result (λ refusal. Tells ⟦<K as Keeper>⟧ refusal.1
+            → IsLeft (kept_items ⟦<K as Keeper>⟧ keeper) (kept_items ⟦<K as Keeper>⟧ refusal.1) refusal.0) }
+        ensures untold { IfErr result (λ refusal. Tells ⟦<K as Keeper>⟧ refusal.1 → Tells ⟦<K as Keeper>⟧ keeper) }
+        ensures cause { IfErr result (λ refusal. Counts (is_fault_of_keeper refusal.0) (faults_of ⟦<K as Keeper>⟧ keeper) (faults_of ⟦<K as Keeper>⟧ refusal.1)) }
     {
         let mut keeper = keeper;
         let taken = match open_items(alloc, &mut keeper, nothing) {
@@ -101,8 +95,8 @@ impl Desk {
     }
 
     /// Hands the keeper back, with its items as they are.
-    pub fn close(self) -> Box<dyn Keeper>
-        requires { IsKept Keeper-dyn self.keeper (tables_of self.state) }
+    pub fn close(self) -> K
+        requires { IsKept ⟦<K as Keeper>⟧ self.keeper (tables_of self.state) }
         ensures { result ≡ self.keeper }
     {
         let Desk { keeper, state } = self;
@@ -112,8 +106,8 @@ impl Desk {
 
     /// Hands the keeper back, as [`Desk::close`] does, and beside it all else that the desk holds: by it
     /// the session goes on, and judges, while nothing is kept.
-    pub fn into_parts(self) -> (Box<dyn Keeper>, State)
-        requires { IsKept Keeper-dyn self.keeper (tables_of self.state) }
+    pub fn into_parts(self) -> (K, State)
+        requires { IsKept ⟦<K as Keeper>⟧ self.keeper (tables_of self.state) }
         ensures keeper { result.0 ≡ self.keeper }
         ensures state { result.1 ≡ self.state }
     {
@@ -141,13 +135,13 @@ impl Desk {
         now: Moment,
         steps: &mut Steps<L>,
     ) -> Reply
-        requires kept { IsKept Keeper-dyn self.old.keeper (tables_of self.old.state) }
+        requires kept { IsKept ⟦<K as Keeper>⟧ self.old.keeper (tables_of self.old.state) }
         requires asked { IsAsked command }
         ensures answer { AllowedReply (session_of self.old.state) now command result (session_of self.new.state) }
-        ensures stays { StaysKept Keeper-dyn self.old self.new }
+        ensures stays { StaysKept ⟦<K as Keeper>⟧ self.old self.new }
         // What is compiled of the lists isn't made anew for a refusal, a failure of the keeper or want of memory.
         ensures compiled { StaysUnlessDone result self.old.state.books.compiled self.new.state.books.compiled }
-        ensures cause { Counts (is_of_keeper result) (faults_of Keeper-dyn self.old.keeper) (faults_of Keeper-dyn self.new.keeper) }
+        ensures cause { Counts (is_of_keeper result) (faults_of ⟦<K as Keeper>⟧ self.old.keeper) (faults_of ⟦<K as Keeper>⟧ self.new.keeper) }
         ensures steps { IsPaidOnce (command_step (tables_of self.old.state) (max self.old.state.moment now) command) self.old.state.books self.new.state.books steps.old steps.new }
     {
         command_fits(&command);
@@ -181,8 +175,8 @@ impl Desk {
         stamp: Moment,
         steps: &mut Steps<L>,
     ) -> Result<Verdict, Memory>
-        requires kept { IsKept Keeper-dyn self.old.keeper (tables_of self.old.state) }
-        ensures stays { StaysKept Keeper-dyn self.old self.new }
+        requires kept { IsKept ⟦<K as Keeper>⟧ self.old.keeper (tables_of self.old.state) }
+        ensures stays { StaysKept ⟦<K as Keeper>⟧ self.old self.new }
         ensures judged { AllowedVerdict (session_of self.old.state) stamp frame.now result (session_of self.new.state) }
         ensures books { self.new.state.books ≡ self.old.state.books }
         ensures keeper { self.new.keeper ≡ self.old.keeper }
@@ -226,8 +220,8 @@ impl Desk {
     /// Makes the later of the session's moment and this one the moment of the session, and answers
     /// it.
     pub fn raise(&mut self, now: Moment) -> Moment
-        requires kept { IsKept Keeper-dyn self.old.keeper (tables_of self.old.state) }
-        ensures stays { StaysKept Keeper-dyn self.old self.new }
+        requires kept { IsKept ⟦<K as Keeper>⟧ self.old.keeper (tables_of self.old.state) }
+        ensures stays { StaysKept ⟦<K as Keeper>⟧ self.old self.new }
         ensures moment { result ≡ max self.old.state.moment now }
         ensures state { self.new.state ≡ record self.old.state { moment = result } }
         ensures keeper { self.new.keeper ≡ self.old.keeper }

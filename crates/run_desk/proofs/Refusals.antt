@@ -1,10 +1,8 @@
 -- What a run comes to whose store isn't opened, by the fault of the opening.
 use Rattle.std.proofs.Common.{◌≡◌, ◌≢◌, ℕ, ◌⊎◌, inl, inr, List, [], take, refl, rules, sym, ap, ap₂, subst, ◌∙◌, arith}
-use Rattle.std.specs.declared.dyn_box.DynBox.{DynBox}
-use Rattle.std.specs.declared.alloc.Global.{Global}
 use Rattle.mud_world.specs.declared.keeper.Keeper.{Ghosts}
 use Rattle.mud_world.specs.declared.item.Item.{Item}
-use Rattle.mud_world.specs.Boxed.{faults_of, Tells, kept_items}
+use Rattle.mud_world.specs.Kept.{faults_of, Tells, kept_items}
 use Rattle.mud_world.specs.Causes.{Counts, Rose, StopsAtFailure}
 use Rattle.mud_world.specs.Door.{DoorState, put_out}
 use Rattle.mud_world.specs.View.{DoorView}
@@ -17,7 +15,6 @@ use Rattle.mud_desk.specs.declared.items.fault.OpenFault.TheVariants.{Keeper, Me
 use Rattle.mud_desk.specs.Items.Opening.{IsFaultOf, IsOfCall}
 use Rattle.desk_model.specs.Keeping.{IsFirstBad, KeepsSame}
 use Rattle.mud_desk.specs.Answers.{IsLeft, is_fault_of_keeper}
-use Rattle.desk_model.specs.Boxed.{IsSameBox}
 use Rattle.run_desk.specs.Honest.{RunsHonestly}
 use Rattle.run_desk.specs.Refused.{IsRefusal, RefusesStore, bad_item_line, each_refusal, refusal_text}
 use Rattle.run_desk.specs.Store.{IsRefused, IsUnopened, LeavesStore}
@@ -108,7 +105,7 @@ bad_where_told items (BadItem kind key) status of is which = (of.item, of.bad)
 
 -- ---- The run
 
-module _ {X : Type 0} {F : X → Type 0} (members : (v : (x : X) × F x) → Ghosts (F v.0)) (keeper returned : DynBox X Global F) (old new : DoorView) (status : ℕ) where
+module _ {K : Type 0} (members : Ghosts K) (keeper returned : K) (old new : DoorView) (status : ℕ) where
   -- that of a command that reads where the store is opened
   pub reads_honestly : RunsHonestly members each_refusal (IsStoppedWriting old new) (new.writes ≡ old.writes) keeper returned status → new.reads ≡ old.reads
       → RunsHonestly members each_status (IsStopped old new) (IsSteady old new) keeper returned status
@@ -117,12 +114,12 @@ module _ {X : Type 0} {F : X → Type 0} (members : (v : (x : X) × F x) → Gho
     fault = λ four. inr (honest.fault four, reads);
     steady = λ other. (reads, honest.steady other);
     keeper_fault = honest.keeper_fault;
-    same_box = honest.same_box;
+    told = honest.told;
   }
 
-module _ {X : Type 0} {F : X → Type 0} (members : (v : (x : X) × F x) → Ghosts (F v.0)) where
+module _ {K : Type 0} (members : Ghosts K) where
   -- what is known of a run whose store isn't opened
-  pub record RunsRefused (tells : Type 0) (keeper returned : DynBox X Global F) (old new : DoorView) (status : ℕ) : Type 0 where
+  pub record RunsRefused (tells : Type 0) (keeper returned : K) (old new : DoorView) (status : ℕ) : Type 0 where
     pub honest : RunsHonestly members each_refusal (IsStoppedWriting old new) (new.writes ≡ old.writes) keeper returned status
     pub leaves : LeavesStore members keeper returned status
     pub refuses : tells → Tells members returned → RefusesStore (kept_items members returned) old.state new.state status
@@ -130,7 +127,7 @@ module _ {X : Type 0} {F : X → Type 0} (members : (v : (x : X) × F x) → Gho
     pub same_turns : new.turns ≡ old.turns
     pub same_reads : new.reads ≡ old.reads
 
-module _ {X : Type 0} {F : X → Type 0} (members : (v : (x : X) × F x) → Ghosts (F v.0)) (keeper after : DynBox X Global F) (tells : Type 0) (old new : DoorView) (status : ℕ) where
+module _ {K : Type 0} (members : Ghosts K) (keeper after : K) (tells : Type 0) (old new : DoorView) (status : ℕ) where
   unopened : (fault : OpenFault) → (Tells members after → IsFaultOf (kept_items members after) fault)
       → (Tells members keeper → Tells members after → IsLeft (kept_items members keeper) (kept_items members after) fault)
       → IsRefusal fault status → IsUnopened members keeper after status
@@ -143,7 +140,8 @@ module _ {X : Type 0} {F : X → Type 0} (members : (v : (x : X) × F x) → Gho
   pub runs_refused : (fault : OpenFault)
       → (Tells members after → IsFaultOf (kept_items members after) fault)
       → (Tells members keeper → Tells members after → IsLeft (kept_items members keeper) (kept_items members after) fault)
-      → Counts (is_fault_of_keeper fault) (faults_of members keeper) (faults_of members after) → IsSameBox keeper after
+      → Counts (is_fault_of_keeper fault) (faults_of members keeper) (faults_of members after)
+      → (Tells members after → Tells members keeper)
       → IsRefusal fault status
       → (status ≡ 4 → StopsAtFailure new.failed old.writes new.writes)
       → (status ≢ 4 → new.writes ≡ old.writes)
@@ -151,13 +149,13 @@ module _ {X : Type 0} {F : X → Type 0} (members : (v : (x : X) × F x) → Gho
       → (tells → (status ≡ 4) ⊎ (status ≡ 5) → WroteFirst (refusal_text fault) old.state new.state)
       → (IsOfCall fault → new.state ≡ old.state)
       → new.turns ≡ old.turns → new.reads ≡ old.reads → RunsRefused members tells keeper after old new status
-  runs_refused fault bad left counts same_box is failed steady done part untouched turns reads = record {
+  runs_refused fault bad left counts back is failed steady done part untouched turns reads = record {
     honest = record {
       statuses = refusal_status fault status is;
       fault = failed;
       steady = steady;
       keeper_fault = rose_of fault status (faults_of members keeper) (faults_of members after) is counts;
-      same_box = same_box;
+      told = back;
     };
     leaves = record {
       keeper_steady = steady_of fault status (faults_of members keeper) (faults_of members after) is counts;

@@ -1,9 +1,7 @@
 -- What a run that reads a capture promises where the desk is opened, and where it isn't.
 use Rattle.std.proofs.Common.{◌≡◌, ◌≢◌, ℕ, ◌⊎◌, inl, inr, List, sym, subst}
-use Rattle.std.specs.declared.dyn_box.DynBox.{DynBox}
-use Rattle.std.specs.declared.alloc.Global.{Global}
 use Rattle.mud_world.specs.declared.keeper.Keeper.{Ghosts}
-use Rattle.mud_world.specs.Boxed.{faults_of, Tells, kept_items}
+use Rattle.mud_world.specs.Kept.{faults_of, Tells, kept_items, Rests}
 use Rattle.mud_world.specs.Causes.{EndsAtFailure}
 use Rattle.read_buffer.specs.Packets.{Packet}
 use Rattle.run_captures.specs.Capture.{WritesTaken}
@@ -12,7 +10,7 @@ use Rattle.run_common.specs.Output.{Output, WritesOutput, WritesPart}
 use Rattle.mud_world.specs.View.{DoorView}
 use Rattle.desk_model.specs.DeskTables.{DeskTables, IsSound}
 use Rattle.desk_model.specs.Keeping.{KeepsDesk}
-use Rattle.desk_model.specs.Boxed.{IsKept, IsSameBox}
+use Rattle.desk_model.specs.Kept.{IsKept}
 use Rattle.run_desk.specs.Store.{ReadsByStore}
 use Rattle.run_desk.proofs.Refusals.{RunsRefused, reads_honestly}
 use Rattle.run_desk.proofs.Stores.{IsOfCapture, keeps_tables, leaves_opened, no_six, no_seven, writes_opened}
@@ -28,28 +26,29 @@ of_capture status (inr (inr (inr five))) = inr (inr (inr (inl five)))
 
 -- ---- Runs
 
-module _ {X : Type 0} {F : X → Type 0} (members : (v : (x : X) × F x) → Ghosts (F v.0)) (keeper after : DynBox X Global F) (tells : Type 0) (old new : DoorView) (status : ℕ)
+module _ {K : Type 0} (members : Ghosts K) (keeper after : K) (tells : Type 0) (old new : DoorView) (status : ℕ)
     {S : Type 0} (output : DeskTables → List ℕ → Output) (step : S → Packet → LineStep S) (from : DeskTables → S) where
   pub opened_over : (tables : DeskTables)
       → (Tells members keeper → Tells members after → KeepsDesk (kept_items members keeper) tables)
-      → IsSound tables → IsKept members after tables → faults_of members after ≡ faults_of members keeper → IsSameBox keeper after
+      → IsSound tables → IsKept members after tables → faults_of members after ≡ faults_of members keeper
+      → (Tells members after → Tells members keeper) → (Tells members after → Rests members after)
       → IsOfCapture status
       → (status ≡ 4 → EndsAtFailure new.failed old.reads new.reads old.writes new.writes)
       → (status ≢ 4 → (new.reads ≡ old.reads) × (new.writes ≡ old.writes))
       → (tells → (status ≡ 0) ⊎ (status ≡ 3) → WritesOutput (output tables old.state.left) old.state new.state status)
       → (tells → (status ≡ 4) ⊎ (status ≡ 5) → WritesPart (output tables old.state.left) old.state new.state)
       → (tells → new.reads ≢ old.reads → WritesTaken step (from tables) old.state new.state)
-      → new.turns ≡ old.turns → (returned : DynBox X Global F) → returned ≡ after → ReadsByStore members output step from tells keeper returned old new status
-  opened_over tables read sound kept same_count same_box is fault steady done part gone turns returned same = subst (λ (box : DynBox X Global F). ReadsByStore members output step from tells keeper box old new status) (sym same) (record {
+      → new.turns ≡ old.turns → (returned : K) → returned ≡ after → ReadsByStore members output step from tells keeper returned old new status
+  opened_over tables read sound kept same_count back rests is fault steady done part gone turns returned same = subst (λ (it : K). ReadsByStore members output step from tells keeper box old new status) (sym same) (record {
     honest = record {
       statuses = of_capture status is;
       fault = fault;
       steady = steady;
       keeper_fault = λ seven. no_seven status is seven;
-      same_box = same_box;
+      told = back;
     };
     writes = λ told tell. inl (tables, keeps_tables members after tables sound kept tell, writes_opened output step from tables old new status is (done told) (part told) (gone told));
-    leaves = leaves_opened members keeper after status tables read sound kept same_count (λ six. no_six status is six);
+    leaves = leaves_opened members keeper after status tables rests read sound kept same_count (λ six. no_six status is six);
     same_turns = turns;
   })
 

@@ -1,10 +1,8 @@
 -- What a run over a store comes to whose items keep a desk.
 use Rattle.std.proofs.Common.{◌≡◌, ◌≢◌, ℕ, ◌⊎◌, inl, inr, List, sym, subst, arith}
-use Rattle.std.specs.declared.dyn_box.DynBox.{DynBox}
-use Rattle.std.specs.declared.alloc.Global.{Global}
 use Rattle.mud_world.specs.declared.keeper.Keeper.{Ghosts}
 use Rattle.mud_world.specs.declared.item.Item.{Item}
-use Rattle.mud_world.specs.Boxed.{faults_of, Tells, kept_items}
+use Rattle.mud_world.specs.Kept.{faults_of, Tells, kept_items, Rests}
 use Rattle.read_buffer.specs.Packets.{Packet}
 use Rattle.run_captures.specs.Capture.{WritesTaken}
 use Rattle.run_captures.specs.Fold.{LineStep}
@@ -13,7 +11,7 @@ use Rattle.mud_world.specs.View.{DoorView}
 use Rattle.desk_model.specs.DeskTables.{DeskTables, IsSound}
 use Rattle.desk_model.specs.Keeping.{KeepsDesk}
 use Rattle.desk_model.proofs.Keeping.{keeps_own}
-use Rattle.desk_model.specs.Boxed.{IsKept}
+use Rattle.desk_model.specs.Kept.{IsKept}
 use Rattle.run_desk.specs.Store.{LeavesStore, WritesByTables}
 
 -- ---- Statuses
@@ -47,19 +45,24 @@ module _ {S : Type 0} (output : DeskTables → List ℕ → Output) (step : S �
 
 -- ---- What is kept
 
-module _ {X : Type 0} {F : X → Type 0} (members : (v : (x : X) × F x) → Ghosts (F v.0)) (keeper : DynBox X Global F) where
+-- without what is said beside it
+pub is_kept_or : {A B C : Type 0} → (A × B) ⊎ C → A ⊎ C
+is_kept_or (inl (kept, rests)) = inl kept
+is_kept_or (inr other) = inr other
+
+module _ {K : Type 0} (members : Ghosts K) (keeper : K) where
   pub keeps_tables : (desk : DeskTables) → IsSound desk → IsKept members keeper desk → Tells members keeper → KeepsDesk (kept_items members keeper) desk
   keeps_tables desk sound kept tells = subst (λ (items : List Item). KeepsDesk items desk) (sym (kept.items tells)) (keeps_own desk sound)
 
-module _ {X : Type 0} {F : X → Type 0} (members : (v : (x : X) × F x) → Ghosts (F v.0)) (keeper after : DynBox X Global F) (status : ℕ) where
+module _ {K : Type 0} (members : Ghosts K) (keeper after : K) (status : ℕ) where
   -- a desk was opened, and nothing was asked of its keeper
-  pub leaves_opened : (tables : DeskTables)
+  pub leaves_opened : (tables : DeskTables) → (Tells members after → Rests members after)
       → (Tells members keeper → Tells members after → KeepsDesk (kept_items members keeper) tables)
       → IsSound tables → IsKept members after tables → faults_of members after ≡ faults_of members keeper → status ≢ 6
       → LeavesStore members keeper after status
-  leaves_opened tables read sound kept same_count other = record {
+  leaves_opened tables rests read sound kept same_count other = record {
     keeper_steady = λ unfailed. same_count;
     same = λ before now. inr (tables, read before now, keeps_tables members after tables sound kept now);
     same_items = λ six before now. absurd (other six);
-    kept = inl (record { tables = tables; sound = sound; kept = kept });
+    kept = inl (record { tables = tables; sound = sound; kept = kept }, rests);
   }

@@ -1,10 +1,8 @@
 -- What a run of `judge` over a store does.
 use Rattle.std.specs.Prelude.{◌≡◌, ◌≢◌, ℕ, ◌⊎◌, List, [], ◌∷◌}
-use Rattle.std.specs.declared.dyn_box.DynBox.{DynBox}
-use Rattle.std.specs.declared.alloc.Global.{Global}
 use Rattle.mud_world.specs.declared.keeper.Keeper.{Ghosts}
 use Rattle.mud_world.specs.declared.item.Item.{Item}
-use Rattle.mud_world.specs.Boxed.{faults_of, Tells, kept_items}
+use Rattle.mud_world.specs.Kept.{faults_of, Tells, kept_items, Rests}
 use Rattle.mud_world.specs.Door.{DoorState}
 use Rattle.run_captures.specs.Capture.{WritesTaken, output_of_capture}
 use Rattle.run_captures.specs.Fold.{LineStep, no_ending}
@@ -15,7 +13,7 @@ use Rattle.mud_world.specs.View.{DoorView}
 use Rattle.desk_model.specs.DeskTables.{DeskTables, IsSound}
 use Rattle.desk_model.specs.Keeping.{KeepsSame, IsFirstBad}
 use Rattle.desk_model.specs.Sessions.{opened}
-use Rattle.desk_model.specs.Boxed.{IsKept}
+use Rattle.desk_model.specs.Kept.{IsKept}
 use Rattle.run_desk.specs.Honest.{RunsHonestly}
 use Rattle.run_desk.specs.Judged.{judged_step}
 use Rattle.run_desk.specs.Refused.{ByStore, RefusesStore, each_refusal}
@@ -38,45 +36,45 @@ module _ {S : Type 0} (output : DeskTables → List ℕ → Output) (step : S �
 abbrev pub judged_output : DeskTables → List ℕ → Output
 judged_output tables octets = output_of_capture judged_step no_ending (opened tables) octets
 
-module _ {X : Type 0} {F : X → Type 0} (members : (v : (x : X) × F x) → Ghosts (F v.0)) where
+module _ {K : Type 0} (members : Ghosts K) where
   -- the keeper is open, and the items that it tells are those of sound tables
-  pub record KeepsTables (keeper : DynBox X Global F) : Type 0 where
+  pub record KeepsTables (keeper : K) : Type 0 where
     pub tables : DeskTables
     pub sound : IsSound tables
     pub kept : IsKept members keeper tables
 
   -- No desk was opened: the items are as they were, or keep the same desk. The status is 4 or 6 only where an item is no record.
-  pub record IsUnopened (keeper returned : DynBox X Global F) (status : ℕ) : Type 0 where
+  pub record IsUnopened (keeper returned : K) (status : ℕ) : Type 0 where
     pub statuses : IsOneOf each_refusal status
     pub bad : IsOneOf (DoorFailed ∷ BadItem ∷ []) status → Tells members returned → (item : Item) × IsFirstBad (kept_items members returned) item
     pub same : Tells members keeper → Tells members returned → KeepsSame (kept_items members keeper) (kept_items members returned)
 
   -- No desk was opened: what is written goes by the items that are kept. They are as they were, or keep the same desk.
-  pub record IsRefused (keeper returned : DynBox X Global F) (old new : DoorState) (status : ℕ) : Type 0 where
+  pub record IsRefused (keeper returned : K) (old new : DoorState) (status : ℕ) : Type 0 where
     pub refuses : RefusesStore (kept_items members returned) old new status
     pub same : Tells members keeper → KeepsSame (kept_items members keeper) (kept_items members returned)
     pub same_items : Is BadItem status → Tells members keeper → kept_items members returned ≡ kept_items members keeper
 
   -- What a run leaves of a store that it only opens. The keeper fails with 7 alone. When the run ends the items are as they were
   -- when it began, or keep the same desk.
-  pub record LeavesStore (keeper returned : DynBox X Global F) (status : ℕ) : Type 0 where
+  pub record LeavesStore (keeper returned : K) (status : ℕ) : Type 0 where
     pub keeper_steady : IsNot KeeperFailed status → faults_of members returned ≡ faults_of members keeper
     pub same : Tells members keeper → Tells members returned → KeepsSame (kept_items members keeper) (kept_items members returned)
     pub same_items : Is BadItem status → Tells members keeper → Tells members returned → kept_items members returned ≡ kept_items members keeper
-    -- Whatever the status, the items of sound tables are kept, but where no desk was opened.
-    pub kept : KeepsTables returned ⊎ IsUnopened keeper returned status
+    -- Whatever the status, the items of sound tables are kept, but where no desk was opened. A crash then leaves these items.
+    pub kept : (KeepsTables returned × (Tells members returned → Rests members returned)) ⊎ IsUnopened keeper returned status
 
   -- A run over a store that reads a capture. `tells` says that the door tells its connections.
-  pub record ReadsByStore {S : Type 0} (output : DeskTables → List ℕ → Output) (step : S → Packet → LineStep S) (from : DeskTables → S) (tells : Type 0) (keeper returned : DynBox X Global F) (old new : DoorView) (status : ℕ) : Type 0 where
+  pub record ReadsByStore {S : Type 0} (output : DeskTables → List ℕ → Output) (step : S → Packet → LineStep S) (from : DeskTables → S) (tells : Type 0) (keeper returned : K) (old new : DoorView) (status : ℕ) : Type 0 where
     -- A read or a write that fails ends the run.
     pub honest : RunsHonestly members each_status (IsStopped old new) (IsSteady old new) keeper returned status
     -- The items that are kept when the run ends say what the output is. Where the store is refused, the capture isn't read.
     pub writes : tells → Tells members returned → ByStore (kept_items members returned) (WritesByTables output step from old new status)
         (RefusesStore (kept_items members returned) old.state new.state status × (new.reads ≡ old.reads))
     pub leaves : LeavesStore keeper returned status
-    -- The box that comes back is the one that was handed in. No port is bound, and the connection isn't left.
+    -- No port is bound, and the connection isn't left.
     pub same_turns : new.turns ≡ old.turns
 
   -- a run of `judge`
-  abbrev pub JudgesStore : Type 0 → DynBox X Global F → DynBox X Global F → DoorView → DoorView → ℕ → Type 0
+  abbrev pub JudgesStore : Type 0 → K → K → DoorView → DoorView → ℕ → Type 0
   JudgesStore tells keeper returned old new status = ReadsByStore judged_output judged_step opened tells keeper returned old new status

@@ -14,16 +14,16 @@ use run_common::Status;
 use std::alloc::Global;
 
 /// Opens a desk over the keeper, and then reads a capture and writes the verdict on each of its
-/// packets. Where the store can't be opened, the capture isn't read. The box is handed back. Nothing
+/// packets. Where the store can't be opened, the capture isn't read. The keeper is handed back. Nothing
 /// was taken before, as [`Desk::open`] wants it: [`Loaded::new`].
-pub fn judge_store<D: Door>(
+pub fn judge_store<K: Keeper, D: Door>(
     alloc: Global,
-    keeper: Box<dyn Keeper>,
+    keeper: K,
     nothing: Loaded,
     door: &mut D,
-) -> (Status, Box<dyn Keeper>)
+) -> (Status, K)
     requires { kept_of nothing ≡ none_kept }
-    ensures judged { JudgesStore Keeper-dyn D.tells keeper result.1
+    ensures judged { JudgesStore ⟦<K as Keeper>⟧ D.tells keeper result.1
         (D.view door.old)
         (D.view door.new)
         (status_number result.0) }

@@ -1,7 +1,5 @@
 -- The lines of a drill in the session that a desk is in, and what a drill over a desk comes to.
 use Rattle.std.proofs.Common.{◌≡◌, ◌≢◌, ℕ, ◌⊎◌, inl, inr, List, [], length, refl, sym, ap, ap₂, subst, ◌∙◌, arith, append-nil}
-use Rattle.std.specs.declared.dyn_box.DynBox.{DynBox}
-use Rattle.std.specs.declared.alloc.Global.{Global}
 use Rattle.mud_world.specs.declared.keeper.Keeper.{Ghosts}
 use Rattle.mud_world.specs.Causes.{StopsAtFailure}
 use Rattle.mud_world.specs.Door.{DoorState, put_out}
@@ -11,7 +9,7 @@ use Rattle.mud_world.specs.View.{DoorView}
 use Rattle.run_common.proofs.Outputs.{wrote_none}
 use Rattle.desk_model.specs.DeskTables.{DeskTables, IsSound}
 use Rattle.desk_model.specs.Sessions.{Session}
-use Rattle.desk_model.specs.Boxed.{IsKept}
+use Rattle.desk_model.specs.Kept.{IsKept}
 use Rattle.mud_desk.specs.DeskState.{DeskState, session_of, tables_of}
 use Rattle.mud_desk.specs.declared.desk.Desk.{Desk}
 use Rattle.run_drills.specs.Commands.{drill_commands}
@@ -54,8 +52,8 @@ of_lines status (inr (inr five)) = inr (inr (inl five))
 no_seven : {A : Type 0} (status : ℕ) → IsOfLines status → status ≡ 7 → A
 no_seven status is seven = absurd (grind arith)
 
-module _ {X : Type 0} {F : X → Type 0} (members : (v : (x : X) × F x) → Ghosts (F v.0)) (tells : Type 0) (packets : ℕ)
-    (before after : Desk X F) (sound : IsSound (tables_of after.state)) (old new : DoorView) (status : ℕ) where
+module _ {K : Type 0} (members : Ghosts K) (tells : Type 0) (packets : ℕ)
+    (before after : Desk K) (sound : IsSound (tables_of after.state)) (old new : DoorView) (status : ℕ) where
   -- all commands ran, and the lines were written, or not
   pub lines_run : RanAll members (drill_commands packets) before after
       → IsOfLines status
@@ -64,10 +62,10 @@ module _ {X : Type 0} {F : X → Type 0} (members : (v : (x : X) × F x) → Gho
       → (tells → status ≡ 0 → new.state ≡ put_out (lines_in packets (session_of after.state)) old.state)
       → (tells → (status ≡ 4) ⊎ (status ≡ 5) → WroteFirst (lines_in packets (session_of after.state)) old.state new.state)
       → new.turns ≡ old.turns → new.reads ≡ old.reads
-      → (returned : DynBox X Global F) → returned ≡ after.keeper → DrillsFrom members tells packets (session_of before.state) before.keeper returned old new status
+      → (returned : K) → returned ≡ after.keeper → DrillsFrom members tells packets (session_of before.state) before.keeper returned old new status
   lines_run ran is fault steady done part turns reads returned same =
       let same_tables : tables_of after.state ≡ (session_after (session_of before.state) (drill_commands packets)).desk = tables_in_session _ after.state ran.session in
-      subst (λ (box : DynBox X Global F). DrillsFrom members tells packets (session_of before.state) before.keeper box old new status) (sym same) (record {
+      subst (λ (it : K). DrillsFrom members tells packets (session_of before.state) before.keeper box old new status) (sym same) (record {
         statuses = of_lines status is;
         ran = drill_commands packets;
         rest = [];
@@ -77,7 +75,6 @@ module _ {X : Type 0} {F : X → Type 0} (members : (v : (x : X) × F x) → Gho
         sound = subst IsSound same_tables sound;
         kept = subst (λ (desk : DeskTables). IsKept members after.keeper desk) same_tables ran.stays.kept;
         told = ran.stays.told;
-        same_box = ran.stays.same_box;
         done = rw ran.session at done;
         part = rw ran.session at part;
         none = λ seven. no_seven status is seven;
@@ -91,10 +88,10 @@ module _ {X : Type 0} {F : X → Type 0} (members : (v : (x : X) × F x) → Gho
 
   -- some of them ran, and then it stopped
   pub stopped_run : (stop : Stop) → RanPart members stop (drill_commands packets) before after → status ≡ status_at stop → new ≡ old
-      → (returned : DynBox X Global F) → returned ≡ after.keeper → DrillsFrom members tells packets (session_of before.state) before.keeper returned old new status
+      → (returned : K) → returned ≡ after.keeper → DrillsFrom members tells packets (session_of before.state) before.keeper returned old new status
   stopped_run Keeper ran is still returned same =
       let same_tables : tables_of after.state ≡ (session_after (session_of before.state) ran.ran).desk = tables_in_session _ after.state ran.session in
-      subst (λ (box : DynBox X Global F). DrillsFrom members tells packets (session_of before.state) before.keeper box old new status) (sym same) (record {
+      subst (λ (it : K). DrillsFrom members tells packets (session_of before.state) before.keeper box old new status) (sym same) (record {
         statuses = inr (inr (inr is));
         ran = ran.ran;
         rest = ran.rest;
@@ -104,7 +101,6 @@ module _ {X : Type 0} {F : X → Type 0} (members : (v : (x : X) × F x) → Gho
         sound = subst IsSound same_tables sound;
         kept = subst (λ (desk : DeskTables). IsKept members after.keeper desk) same_tables ran.stays.kept;
         told = ran.stays.told;
-        same_box = ran.stays.same_box;
         done = λ told zero. absurd (omega (arith, is, zero));
         part = λ told which. absurd (grind arith);
         none = λ seven. ap (λ (d : DoorView). d.state) still;
@@ -117,7 +113,7 @@ module _ {X : Type 0} {F : X → Type 0} (members : (v : (x : X) × F x) → Gho
       })
   stopped_run Memory ran is still returned same =
       let same_tables : tables_of after.state ≡ (session_after (session_of before.state) ran.ran).desk = tables_in_session _ after.state ran.session in
-      subst (λ (box : DynBox X Global F). DrillsFrom members tells packets (session_of before.state) before.keeper box old new status) (sym same) (record {
+      subst (λ (it : K). DrillsFrom members tells packets (session_of before.state) before.keeper box old new status) (sym same) (record {
         statuses = inr (inr (inl is));
         ran = ran.ran;
         rest = ran.rest;
@@ -127,7 +123,6 @@ module _ {X : Type 0} {F : X → Type 0} (members : (v : (x : X) × F x) → Gho
         sound = subst IsSound same_tables sound;
         kept = subst (λ (desk : DeskTables). IsKept members after.keeper desk) same_tables ran.stays.kept;
         told = ran.stays.told;
-        same_box = ran.stays.same_box;
         done = λ told zero. absurd (omega (arith, is, zero));
         part = λ told which. wrote_none (lines_in packets (session_after (session_of before.state) (drill_commands packets))) old.state new.state (ap (λ (d : DoorView). d.state) still);
         none = λ seven. absurd (omega (arith, is, seven));

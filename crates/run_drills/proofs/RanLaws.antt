@@ -2,7 +2,7 @@
 use Rattle.std.proofs.Common.{◌≡◌, ℕ, List, [], ◌∷◌, ◌++◌, Result, Ok, Err, OnOk, IfErr, refl, sym, ap, subst, ◌∙◌, arith, append_assoc, append-nil, length-append}
 use Rattle.std.proofs.lemmas.Result.{on_ok_weaker}
 use Rattle.mud_world.specs.declared.keeper.Keeper.{Ghosts}
-use Rattle.mud_world.specs.Boxed.{faults_of}
+use Rattle.mud_world.specs.Kept.{faults_of}
 use Rattle.mud_world.specs.Causes.{Counts}
 use Rattle.usage_tables.specs.declared.approval.OperatorVerdict.TheVariants.{Waived}
 use Rattle.usage_tables.specs.Held.{digest_of}
@@ -11,7 +11,7 @@ use Rattle.desk_model.specs.declared.command.Command.TheVariants.{Import, Verdic
 use Rattle.desk_model.specs.declared.reply.Reply.{Reply}
 use Rattle.desk_model.specs.declared.reply.Reply.TheVariants as reply
 use Rattle.desk_model.specs.Sessions.{Session, Answered, AllowedReply, is_of_keeper}
-use Rattle.desk_model.specs.Boxed.{IsKept}
+use Rattle.desk_model.specs.Kept.{IsKept}
 use Rattle.mud_desk.specs.DeskState.{session_of, tables_of}
 use Rattle.mud_desk.specs.declared.desk.Desk.{Desk}
 use Rattle.mud_desk.specs.Stays.{StaysKept}
@@ -31,7 +31,7 @@ use Rattle.run_drills.proofs.Parts.{binding}
 -- ---- One command
 
 -- what holds of a desk and its keeper behind a call
-module _ {X : Type 0} {F : X → Type 0} (members : (v : (x : X) × F x) → Ghosts (F v.0)) (before after : Desk X F) (stays : StaysKept members before after) (command : Command) where
+module _ {K : Type 0} (members : Ghosts K) (before after : Desk K) (stays : StaysKept members before after) (command : Command) where
   -- what is answered to the command, and the session behind it
   abbrev Replies : Reply → Type 0
   Replies answer = AllowedReply (session_of before.state) command_moment command answer (session_of after.state)
@@ -82,7 +82,7 @@ module _ {X : Type 0} {F : X → Type 0} (members : (v : (x : X) × F x) → Gho
 
 -- ---- No command, and some behind others
 
-module _ {X : Type 0} {F : X → Type 0} (members : (v : (x : X) × F x) → Ghosts (F v.0)) (a : Desk X F) where
+module _ {K : Type 0} (members : Ghosts K) (a : Desk K) where
   pub all_of_none : IsKept members a.keeper (tables_of a.state) → RanAll members [] a a
   all_of_none kept = record {
     session = refl;
@@ -101,7 +101,7 @@ module _ {X : Type 0} {F : X → Type 0} (members : (v : (x : X) × F x) → Gho
     cause = record { later = omega arith; rose = λ failed. absurd (cc); steady = λ e. refl };
   }
 
-  module _ (b : Desk X F) where
+  module _ (b : Desk K) where
     -- the same list, written otherwise
     pub all_same : (xs zs : List Command) → zs ≡ xs → RanAll members xs a b → RanAll members zs a b
     all_same xs zs is ran = subst (λ (l : List Command). RanAll members l a b) (sym is) ran
@@ -118,7 +118,7 @@ module _ {X : Type 0} {F : X → Type 0} (members : (v : (x : X) × F x) → Gho
       cause = part.cause;
     }
 
-    module _ (xs : List Command) (first : RanAll members xs a b) (c : Desk X F) where
+    module _ (xs : List Command) (first : RanAll members xs a b) (c : Desk K) where
       pub all_further : (ys : List Command) → RanAll members ys b c → RanAll members (xs ++ ys) a c
       all_further ys second = record {
         session = second.session ∙ ap (λ (s : Session). session_after s ys) first.session ∙ sym (session_further (session_of a.state) xs ys);
@@ -143,8 +143,8 @@ if_err : {A E : Type 0} (r : Result A E) {P Q : E → Type 0} → ((e : E) → P
 if_err (Ok a) f p = tt
 if_err (Err e) f p = f e p
 
-module _ {X : Type 0} {F : X → Type 0} (members : (v : (x : X) × F x) → Ghosts (F v.0)) (a : Desk X F) (b : Desk X F) (xs : List Command) (first : RanAll members xs a b)
-    (c : Desk X F) (ys zs : List Command) (is : zs ≡ xs ++ ys) where
+module _ {K : Type 0} (members : Ghosts K) (a : Desk K) (b : Desk K) (xs : List Command) (first : RanAll members xs a b)
+    (c : Desk K) (ys zs : List Command) (is : zs ≡ xs ++ ys) where
   pub both_ran : RanAll members ys b c → RanAll members zs a c
   both_ran second = all_same members a c (xs ++ ys) zs is (all_further members a b xs first c ys second)
 
@@ -194,29 +194,29 @@ parts_with packets things files bound t f b =
     ∙ ap (λ (n : ℕ). (((round_commands Announcements things ++ round_commands Leases things) ++ round_commands Files n) ++ (binding ∷ [])) ++ round_commands Hosts n) (sym f)
     ∙ ap (λ (command : Command). (((round_commands Announcements things ++ round_commands Leases things) ++ round_commands Files files) ++ (command ∷ [])) ++ round_commands Hosts files) (sym b)
 
-module _ {X : Type 0} {F : X → Type 0} (members : (v : (x : X) × F x) → Ghosts (F v.0)) (a : Desk X F) (A L Fs B O drill : List Command) (is : drill ≡ (((A ++ L) ++ Fs) ++ B) ++ O) (k1 : Desk X F) where
+module _ {K : Type 0} (members : Ghosts K) (a : Desk K) (A L Fs B O drill : List Command) (is : drill ≡ (((A ++ L) ++ Fs) ++ B) ++ O) (k1 : Desk K) where
   pub part_one : (stop : Stop) → RanPart members stop A a k1 → RanPart members stop drill a k1
   part_one stop part = part_more members a k1 stop A (L ++ (Fs ++ (B ++ O))) drill (is ∙ five_parts A L Fs B O) part
 
-  module _ (r1 : RanAll members A a k1) (k2 : Desk X F) where
+  module _ (r1 : RanAll members A a k1) (k2 : Desk K) where
     pub part_two : (stop : Stop) → RanPart members stop L k1 k2 → RanPart members stop drill a k2
     part_two stop part = both_part members a k1 A r1 k2 L (A ++ L) refl (Fs ++ (B ++ O)) drill (is ∙ behind_two A L Fs B O) stop part
 
-    module _ (r2 : RanAll members L k1 k2) (k3 : Desk X F) where
+    module _ (r2 : RanAll members L k1 k2) (k3 : Desk K) where
       ran_two : RanAll members (A ++ L) a k2
       ran_two = both_ran members a k1 A r1 k2 L (A ++ L) refl r2
 
       pub part_three : (stop : Stop) → RanPart members stop Fs k2 k3 → RanPart members stop drill a k3
       part_three stop part = both_part members a k2 (A ++ L) ran_two k3 Fs ((A ++ L) ++ Fs) refl (B ++ O) drill (is ∙ behind_three A L Fs B O) stop part
 
-      module _ (r3 : RanAll members Fs k2 k3) (k4 : Desk X F) where
+      module _ (r3 : RanAll members Fs k2 k3) (k4 : Desk K) where
         ran_three : RanAll members ((A ++ L) ++ Fs) a k3
         ran_three = both_ran members a k2 (A ++ L) ran_two k3 Fs ((A ++ L) ++ Fs) refl r3
 
         pub part_four : (stop : Stop) → RanPart members stop B k3 k4 → RanPart members stop drill a k4
         part_four stop part = both_part members a k3 ((A ++ L) ++ Fs) ran_three k4 B (((A ++ L) ++ Fs) ++ B) refl O drill is stop part
 
-        module _ (r4 : RanAll members B k3 k4) (k5 : Desk X F) (r : Result (Unit {0}) Stop) where
+        module _ (r4 : RanAll members B k3 k4) (k5 : Desk K) (r : Result (Unit {0}) Stop) where
           ran_four : RanAll members (((A ++ L) ++ Fs) ++ B) a k4
           ran_four = both_ran members a k3 ((A ++ L) ++ Fs) ran_three k4 B (((A ++ L) ++ Fs) ++ B) refl r4
 

@@ -1,12 +1,10 @@
 -- What a run of `drill` promises where the store holds nothing, where it holds something, and where no desk is opened.
 use Rattle.std.proofs.Common.{◌≡◌, ◌≢◌, ℕ, ◌==◌, ◌⊎◌, inl, inr, true, false, List, [], ◌∷◌, length, Option, None, is_none, refl, sym, subst, ◌∙◌, arith}
 use Rattle.std.proofs.lemmas.Bool.Decides.{Decides-eqb}
-use Rattle.std.specs.declared.dyn_box.DynBox.{DynBox}
-use Rattle.std.specs.declared.alloc.Global.{Global}
 use Rattle.std.proofs.lemmas.Bool.{and_parts}
 use Rattle.mud_base.specs.declared.prefix.Prefix.{Prefix}
 use Rattle.mud_world.specs.declared.keeper.Keeper.{Ghosts}
-use Rattle.mud_world.specs.Boxed.{faults_of, Tells, kept_items}
+use Rattle.mud_world.specs.Kept.{faults_of, Tells, kept_items}
 use Rattle.mud_world.specs.Causes.{Rose, StopsAtFailure}
 use Rattle.mud_world.specs.Door.{put_out}
 use Rattle.table_model.specs.declared.thing.Thing.{Thing}
@@ -20,9 +18,9 @@ use Rattle.desk_model.specs.Keeping.{KeepsDesk}
 use Rattle.desk_model.proofs.Keeping.{keeps_none}
 use Rattle.desk_model.specs.Sessions.{opened}
 use Rattle.desk_model.proofs.ReadSound.{no_stamp}
-use Rattle.desk_model.specs.Boxed.{IsKept, IsSameBox}
+use Rattle.desk_model.specs.Kept.{IsKept}
 use Rattle.run_desk.proofs.Refusals.{RunsRefused, is_refused}
-use Rattle.run_desk.proofs.Stores.{keeps_tables}
+use Rattle.run_desk.proofs.Stores.{is_kept_or, keeps_tables}
 use Rattle.run_drills.specs.Commands.{drill_commands}
 use Rattle.run_drills.specs.Drill.{drill_text, lines_in, session_after}
 use Rattle.run_drills.specs.Store.{DrillsFrom, DrillsStore, IsFull, holds_nothing, not_empty_line}
@@ -76,10 +74,10 @@ is_seven_not status is seven = absurd (grind arith)
 
 -- ---- A store that holds something
 
-module _ {X : Type 0} {F : X → Type 0} (members : (v : (x : X) × F x) → Ghosts (F v.0)) (keeper begun : DynBox X Global F) (tells : Type 0) (old new : DoorView) (status packets : ℕ) (tables : DeskTables)
+module _ {K : Type 0} (members : Ghosts K) (keeper begun : K) (tells : Type 0) (old new : DoorView) (status packets : ℕ) (tables : DeskTables)
     (read : Tells members keeper → Tells members begun → KeepsDesk (kept_items members keeper) tables)
-    (same_count : faults_of members begun ≡ faults_of members keeper) (same_box : IsSameBox keeper begun) where
-  pub drilled_run : holds_nothing tables ≡ true → (returned : DynBox X Global F) → DrillsFrom members tells packets (opened tables) begun returned old new status → DrillsStore members tells packets keeper returned old new status
+    (same_count : faults_of members begun ≡ faults_of members keeper) (back : Tells members begun → Tells members keeper) where
+  pub drilled_run : holds_nothing tables ≡ true → (returned : K) → DrillsFrom members tells packets (opened tables) begun returned old new status → DrillsStore members tells packets keeper returned old new status
   drilled_run empty returned from =
       let new_desk : tables ≡ empty_desk = is_new tables empty in
       let run : DrillsFrom members tells packets (opened empty_desk) begun returned old new status = subst (λ (desk : DeskTables). DrillsFrom members tells packets (opened desk) begun returned old new status) new_desk from in
@@ -89,7 +87,7 @@ module _ {X : Type 0} {F : X → Type 0} (members : (v : (x : X) × F x) → Gho
           fault = run.fault;
           steady = run.steady;
           keeper_fault = λ seven. subst (λ (n : ℕ). Rose n (faults_of members returned)) same_count (run.keeper_fault seven);
-          same_box = record { object = run.same_box.object ∙ same_box.object; pointer = run.same_box.pointer ∙ same_box.pointer };
+          told = λ now. back (run.told now);
         };
         keeper_steady = λ other. run.keeper_steady other ∙ same_count;
         runs = λ told tell. inl (record {
@@ -117,15 +115,15 @@ module _ {X : Type 0} {F : X → Type 0} (members : (v : (x : X) × F x) → Gho
       → (tells → status ≡ 3 → new.state ≡ put_out not_empty_line old.state)
       → (tells → status ≡ 4 → WroteFirst not_empty_line old.state new.state)
       → new.turns ≡ old.turns → new.reads ≡ old.reads
-      → (returned : DynBox X Global F) → returned ≡ begun → DrillsStore members tells packets keeper returned old new status
+      → (returned : K) → returned ≡ begun → DrillsStore members tells packets keeper returned old new status
   full_run full sound kept is fault steady done part turns reads returned same =
-      subst (λ (box : DynBox X Global F). DrillsStore members tells packets keeper box old new status) (sym same) (record {
+      subst (λ (it : K). DrillsStore members tells packets keeper box old new status) (sym same) (record {
         honest = record {
           statuses = of_full status is;
           fault = fault;
           steady = steady;
           keeper_fault = λ seven. is_seven_not status is seven;
-          same_box = same_box;
+          told = back;
         };
         keeper_steady = λ other. same_count;
         runs = λ told tell. inr (inl (left told tell));
@@ -147,7 +145,7 @@ module _ {X : Type 0} {F : X → Type 0} (members : (v : (x : X) × F x) → Gho
 
 -- ---- A store that isn't opened
 
-module _ {X : Type 0} {F : X → Type 0} (members : (v : (x : X) × F x) → Ghosts (F v.0)) (keeper after : DynBox X Global F) (tells : Type 0) (old new : DoorView) (status packets : ℕ) where
+module _ {K : Type 0} (members : Ghosts K) (keeper after : K) (tells : Type 0) (old new : DoorView) (status packets : ℕ) where
   pub refused_drill : RunsRefused members tells keeper after old new status → DrillsStore members tells packets keeper after old new status
   refused_drill run = record {
     honest = record {
@@ -155,11 +153,11 @@ module _ {X : Type 0} {F : X → Type 0} (members : (v : (x : X) × F x) → Gho
       fault = run.honest.fault;
       steady = run.honest.steady;
       keeper_fault = run.honest.keeper_fault;
-      same_box = run.honest.same_box;
+      told = run.honest.told;
     };
     keeper_steady = run.leaves.keeper_steady;
     runs = λ told tell. inr (inr (is_refused members keeper after tells old new status run told tell));
-    kept = run.leaves.kept;
+    kept = is_kept_or run.leaves.kept;
     same_turns = run.same_turns;
     same_reads = run.same_reads;
   }

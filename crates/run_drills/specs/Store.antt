@@ -1,9 +1,7 @@
 -- What a drill over a store does.
 use Rattle.std.specs.Prelude.{◌≡◌, ℕ, ◌<◌, ◌⊎◌, ◌&&◌, Bool, false, List, [], ◌++◌, length, codes, is_none, ◌∷◌}
-use Rattle.std.specs.declared.dyn_box.DynBox.{DynBox}
-use Rattle.std.specs.declared.alloc.Global.{Global}
 use Rattle.mud_world.specs.declared.keeper.Keeper.{Ghosts}
-use Rattle.mud_world.specs.Boxed.{faults_of, Tells, kept_items}
+use Rattle.mud_world.specs.Kept.{faults_of, Tells, kept_items}
 use Rattle.mud_world.specs.Causes.{Rose}
 use Rattle.mud_world.specs.Door.{put_out}
 use Rattle.table_model.specs.TakenItems.{is_empty}
@@ -15,7 +13,7 @@ use Rattle.desk_model.specs.DeskTables.{DeskTables, IsSound, empty_desk}
 use Rattle.desk_model.specs.Items.{items_of}
 use Rattle.desk_model.specs.Keeping.{KeepsDesk, KeepsSame}
 use Rattle.desk_model.specs.Sessions.{Session, opened}
-use Rattle.desk_model.specs.Boxed.{IsKept, IsSameBox}
+use Rattle.desk_model.specs.Kept.{IsKept}
 use Rattle.run_desk.specs.Honest.{RunsHonestly}
 use Rattle.run_desk.specs.Store.{IsRefused, IsUnopened, KeepsTables}
 use Rattle.run_drills.specs.Commands.{drill_commands}
@@ -33,9 +31,9 @@ holds_nothing desk =
 abbrev pub not_empty_line : List ℕ
 not_empty_line = codes "fault NotEmpty\n"
 
-module _ {X : Type 0} {F : X → Type 0} (members : (v : (x : X) × F x) → Ghosts (F v.0)) where
+module _ {K : Type 0} (members : Ghosts K) where
   -- A drill over a desk in this session. `tells` says that the door tells its connections.
-  pub record DrillsFrom (tells : Type 0) (packets : ℕ) (session : Session) (keeper returned : DynBox X Global F) (old new : DoorView) (status : ℕ) : Type 0 where
+  pub record DrillsFrom (tells : Type 0) (packets : ℕ) (session : Session) (keeper returned : K) (old new : DoorView) (status : ℕ) : Type 0 where
     pub statuses : IsOneOf (Done ∷ DoorFailed ∷ NoMemory ∷ KeeperFailed ∷ []) status
     -- Some of the commands ran, in order from the first on: all of them with 0 and 4, and with 7 those before the failed one.
     pub ran : List Command
@@ -43,11 +41,10 @@ module _ {X : Type 0} {F : X → Type 0} (members : (v : (x : X) × F x) → Gho
     pub split : drill_commands packets ≡ ran ++ rest
     pub all : IsOneOf (Done ∷ DoorFailed ∷ []) status → rest ≡ []
     pub more : Is KeeperFailed status → 0 < length rest
-    -- The lists behind them are sound, and kept in the same box.
+    -- The lists behind them are sound, and kept.
     pub sound : IsSound (session_after session ran).desk
     pub kept : IsKept members returned (session_after session ran).desk
     pub told : Tells members returned → Tells members keeper
-    pub same_box : IsSameBox keeper returned
     -- All lines were written with 0, a first part of them with 4 and 5, and none with 7.
     pub done : tells → Is Done status → new.state ≡ put_out (lines_in packets (session_after session (drill_commands packets))) old.state
     pub part : tells → IsOneOf (DoorFailed ∷ NoMemory ∷ []) status → WroteFirst (lines_in packets (session_after session (drill_commands packets))) old.state new.state
@@ -61,7 +58,7 @@ module _ {X : Type 0} {F : X → Type 0} (members : (v : (x : X) × F x) → Gho
     pub same_reads : new.reads ≡ old.reads
 
   -- A store that held nothing was drilled from empty lists and an empty history on.
-  pub record Drills (packets : ℕ) (keeper returned : DynBox X Global F) (old new : DoorView) (status : ℕ) : Type 0 where
+  pub record Drills (packets : ℕ) (keeper returned : K) (old new : DoorView) (status : ℕ) : Type 0 where
     pub statuses : IsOneOf (Done ∷ DoorFailed ∷ NoMemory ∷ KeeperFailed ∷ []) status
     pub held : Tells members keeper → kept_items members keeper ≡ []
     -- Some of the commands ran, in order from the first on, and the lists behind them are kept: all of them with 0 and 4, and with
@@ -79,7 +76,7 @@ module _ {X : Type 0} {F : X → Type 0} (members : (v : (x : X) × F x) → Gho
 
   -- The store holds something: no command ran, and its tables stay. The line that says so was written whole with 3, and a first
   -- part of it with 4.
-  pub record IsFull (keeper returned : DynBox X Global F) (old new : DoorView) (status : ℕ) : Type 0 where
+  pub record IsFull (keeper returned : K) (old new : DoorView) (status : ℕ) : Type 0 where
     pub statuses : IsOneOf (Refused ∷ DoorFailed ∷ []) status
     pub full : (tables : DeskTables) × KeepsDesk (kept_items members returned) tables × (holds_nothing tables ≡ false)
     pub same : Tells members keeper → KeepsSame (kept_items members keeper) (kept_items members returned)
@@ -87,7 +84,7 @@ module _ {X : Type 0} {F : X → Type 0} (members : (v : (x : X) × F x) → Gho
     pub part : Is DoorFailed status → WroteFirst not_empty_line old.state new.state
 
   -- A run of `drill`. `tells` says that the door tells its connections.
-  pub record DrillsStore (tells : Type 0) (packets : ℕ) (keeper returned : DynBox X Global F) (old new : DoorView) (status : ℕ) : Type 0 where
+  pub record DrillsStore (tells : Type 0) (packets : ℕ) (keeper returned : K) (old new : DoorView) (status : ℕ) : Type 0 where
     -- A write that fails ends the run.
     pub honest : RunsHonestly members each_status (IsStoppedWriting old new) (new.writes ≡ old.writes) keeper returned status
     pub keeper_steady : IsNot KeeperFailed status → faults_of members returned ≡ faults_of members keeper
@@ -96,6 +93,6 @@ module _ {X : Type 0} {F : X → Type 0} (members : (v : (x : X) × F x) → Gho
         ⊎ (IsFull keeper returned old new status ⊎ IsRefused members keeper returned old.state new.state status)
     -- Whatever the status, the items of sound tables are kept, but where no desk was opened.
     pub kept : KeepsTables members returned ⊎ IsUnopened members keeper returned status
-    -- The box that comes back is the one that was handed in. The door isn't read, no port is bound, and the connection isn't left.
+    -- The door isn't read, no port is bound, and the connection isn't left.
     pub same_turns : new.turns ≡ old.turns
     pub same_reads : new.reads ≡ old.reads

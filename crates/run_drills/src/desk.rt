@@ -5,7 +5,7 @@ ghost use Rattle.run_common.specs.Ends.{IsStoppedWriting};
 ghost use Rattle.run_common.specs.Output.{WroteFirst};
 ghost use Rattle.run_common.specs.Status.{Is, IsNot, IsOneOf, status_number};
 ghost use Rattle.run_common.specs.declared.status.Status.TheVariants.{Done, Refused, DoorFailed, NoMemory, KeeperFailed};
-ghost use Rattle.desk_model.specs.Boxed.{IsKept};
+ghost use Rattle.desk_model.specs.Kept.{IsKept};
 ghost use Rattle.mud_desk.specs.DeskState.{tables_of, session_of};
 ghost use Rattle.run_drills.specs.Counts.{count_lines, verdict_counts};
 ghost use Rattle.run_drills.specs.Drill.{lines_in, numbers_to, verdicts_on};
@@ -26,7 +26,7 @@ const NOT_EMPTY: &[u8] = b"fault NotEmpty\n";
 
 /// Whether a desk holds nothing, and nothing of it was ever changed.
 #[tactic(auto, unfolding(crate::specs::Store::holds_nothing))]
-pub(crate) fn holds_nothing(desk: &Desk) -> bool
+pub(crate) fn holds_nothing<K: Keeper>(desk: &Desk<K>) -> bool
     ensures { result ≡ spec.holds_nothing (tables_of desk.now.state) }
 {
     desk.things().is_empty()
@@ -37,9 +37,9 @@ pub(crate) fn holds_nothing(desk: &Desk) -> bool
         && desk.stamp().is_none()
 }
 
-/// Refuses a desk that holds something. The box is handed back.
-pub(crate) fn refuse_full<D: Door>(desk: Desk, door: &mut D) -> (Status, Box<dyn Keeper>)
-    requires { IsKept Keeper-dyn desk.keeper (tables_of desk.state) }
+/// Refuses a desk that holds something. The keeper is handed back.
+pub(crate) fn refuse_full<K: Keeper, D: Door>(desk: Desk<K>, door: &mut D) -> (Status, K)
+    requires { IsKept ⟦<K as Keeper>⟧ desk.keeper (tables_of desk.state) }
     ensures statuses { IsOneOf (Refused ∷ DoorFailed ∷ []) (status_number result.0) }
     ensures fault { Is DoorFailed (status_number result.0) → IsStoppedWriting (D.view door.old) (D.view door.new) }
     ensures steady { IsNot DoorFailed (status_number result.0) → (D.view door.new).writes ≡ (D.view door.old).writes }
@@ -73,15 +73,15 @@ fn lines_of(
     Ok(lines)
 }
 
-/// Judges the packets in the session that a desk is in, and writes the lines. The box is handed back,
+/// Judges the packets in the session that a desk is in, and writes the lines. The keeper is handed back,
 /// and the keeper isn't called.
-fn write_lines<D: Door>(
+fn write_lines<K: Keeper, D: Door>(
     alloc: Global,
-    desk: Desk,
+    desk: Desk<K>,
     packets: u32,
     door: &mut D,
-) -> (Status, Box<dyn Keeper>)
-    requires { IsKept Keeper-dyn desk.keeper (tables_of desk.state) }
+) -> (Status, K)
+    requires { IsKept ⟦<K as Keeper>⟧ desk.keeper (tables_of desk.state) }
     ensures statuses { IsOneOf (Done ∷ DoorFailed ∷ NoMemory ∷ []) (status_number result.0) }
     ensures fault { Is DoorFailed (status_number result.0) → IsStoppedWriting (D.view door.old) (D.view door.new) }
     ensures steady { IsNot DoorFailed (status_number result.0) → (D.view door.new).writes ≡ (D.view door.old).writes }
@@ -107,16 +107,16 @@ fn write_lines<D: Door>(
     }
 }
 
-/// Runs the commands of a drill over a desk, and then judges the packets and writes the lines. The box
+/// Runs the commands of a drill over a desk, and then judges the packets and writes the lines. The keeper
 /// is handed back.
-pub(crate) fn drill_desk<D: Door>(
+pub(crate) fn drill_desk<K: Keeper, D: Door>(
     alloc: Global,
-    desk: Desk,
+    desk: Desk<K>,
     packets: u32,
     door: &mut D,
-) -> (Status, Box<dyn Keeper>)
-    requires { IsKept Keeper-dyn desk.keeper (tables_of desk.state) }
-    ensures drilled { DrillsFrom Keeper-dyn D.tells packets (session_of desk.state) desk.keeper result.1
+) -> (Status, K)
+    requires { IsKept ⟦<K as Keeper>⟧ desk.keeper (tables_of desk.state) }
+    ensures drilled { DrillsFrom ⟦<K as Keeper>⟧ D.tells packets (session_of desk.state) desk.keeper result.1
         (D.view door.old)
         (D.view door.new)
         (status_number result.0) }

@@ -1,11 +1,11 @@
 //! The commands of a drill, one after the other.
 ghost use Rattle.std.specs.Prelude.{◌≡◌, [], ◌∷◌, IfErr, OnOk};
 ghost use Rattle.base_rows.specs.Ledgers.{IsBlankOf};
-ghost use Rattle.mud_world.specs.Boxed.{faults_of};
+ghost use Rattle.mud_world.specs.Kept.{faults_of};
 ghost use Rattle.mud_world.specs.Causes.{Counts};
 ghost use Rattle.desk_model.specs.Commands.{IsAsked};
 ghost use Rattle.desk_model.specs.Sessions.{AllowedReply, is_of_keeper};
-ghost use Rattle.desk_model.specs.Boxed.{IsKept};
+ghost use Rattle.desk_model.specs.Kept.{IsKept};
 ghost use Rattle.mud_desk.specs.DeskState.{session_of, tables_of};
 ghost use Rattle.mud_desk.specs.Stays.{StaysKept};
 ghost use Rattle.run_drills.specs.Commands.{command_moment, commands_of, drill_commands, round_commands};
@@ -21,18 +21,19 @@ use crate::usage::usage_text;
 use base_rows::Steps;
 use desk_model::{Command, Reply};
 use mud_desk::Desk;
+use mud_world::Keeper;
 use std::alloc::Global;
 use std::marker::Brand;
 use std::sync::ledger::{Blank, Ledger};
 
 /// What a command answers.
-fn reply_to<L: Ledger>(desk: &mut Desk, command: Command, blank: Blank) -> Reply
+fn reply_to<K: Keeper, L: Ledger>(desk: &mut Desk<K>, command: Command, blank: Blank) -> Reply
     requires blank { IsBlankOf L.name L.parts blank }
-    requires kept { IsKept Keeper-dyn desk.old.keeper (tables_of desk.old.state) }
+    requires kept { IsKept ⟦<K as Keeper>⟧ desk.old.keeper (tables_of desk.old.state) }
     requires asked { IsAsked command }
     ensures answer { AllowedReply (session_of desk.old.state) command_moment command result (session_of desk.new.state) }
-    ensures stays { StaysKept Keeper-dyn desk.old desk.new }
-    ensures cause { Counts (is_of_keeper result) (faults_of Keeper-dyn desk.old.keeper) (faults_of Keeper-dyn desk.new.keeper) }
+    ensures stays { StaysKept ⟦<K as Keeper>⟧ desk.old desk.new }
+    ensures cause { Counts (is_of_keeper result) (faults_of ⟦<K as Keeper>⟧ desk.old.keeper) (faults_of ⟦<K as Keeper>⟧ desk.new.keeper) }
 {
     let mut steps = Steps::<L>::new(blank);
     desk.command(command, command_moment(), &mut steps)
@@ -50,20 +51,20 @@ fn unless_stopped(reply: Reply) -> Result<(), Stop>
 }
 
 /// Runs a command. One that is refused changes nothing.
-fn run(desk: &mut Desk, command: Command) -> Result<(), Stop>
-    requires kept { IsKept Keeper-dyn desk.old.keeper (tables_of desk.old.state) }
+fn run<K: Keeper>(desk: &mut Desk<K>, command: Command) -> Result<(), Stop>
+    requires kept { IsKept ⟦<K as Keeper>⟧ desk.old.keeper (tables_of desk.old.state) }
     requires asked { IsAsked command }
-    ensures all { OnOk result (RanAll Keeper-dyn (command ∷ []) desk.old desk.new) }
-    ensures part { IfErr result (λ stop. RanPart Keeper-dyn stop (command ∷ []) desk.old desk.new) }
+    ensures all { OnOk result (RanAll ⟦<K as Keeper>⟧ (command ∷ []) desk.old desk.new) }
+    ensures part { IfErr result (λ stop. RanPart ⟦<K as Keeper>⟧ stop (command ∷ []) desk.old desk.new) }
 {
-    unless_stopped(reply_to::<Brand>(desk, command, Blank::new(1)))
+    unless_stopped(reply_to::<K, Brand>(desk, command, Blank::new(1)))
 }
 
 /// The usage file of a Thing's model is fetched, and approved.
-fn run_files(alloc: Global, desk: &mut Desk, thing: u16) -> Result<(), Stop>
-    requires kept { IsKept Keeper-dyn desk.old.keeper (tables_of desk.old.state) }
-    ensures all { OnOk result (RanAll Keeper-dyn (commands_of Round.Files thing) desk.old desk.new) }
-    ensures part { IfErr result (λ stop. RanPart Keeper-dyn stop (commands_of Round.Files thing) desk.old desk.new) }
+fn run_files<K: Keeper>(alloc: Global, desk: &mut Desk<K>, thing: u16) -> Result<(), Stop>
+    requires kept { IsKept ⟦<K as Keeper>⟧ desk.old.keeper (tables_of desk.old.state) }
+    ensures all { OnOk result (RanAll ⟦<K as Keeper>⟧ (commands_of Round.Files thing) desk.old desk.new) }
+    ensures part { IfErr result (λ stop. RanPart ⟦<K as Keeper>⟧ stop (commands_of Round.Files thing) desk.old desk.new) }
 {
     let file = usage_text(alloc, thing)?;
     let approved = approval(alloc, thing, file.octets())?;
@@ -72,10 +73,15 @@ fn run_files(alloc: Global, desk: &mut Desk, thing: u16) -> Result<(), Stop>
 }
 
 /// What a round does for one Thing.
-fn run_for(alloc: Global, desk: &mut Desk, round: Round, thing: u16) -> Result<(), Stop>
-    requires kept { IsKept Keeper-dyn desk.old.keeper (tables_of desk.old.state) }
-    ensures all { OnOk result (RanAll Keeper-dyn (commands_of round thing) desk.old desk.new) }
-    ensures part { IfErr result (λ stop. RanPart Keeper-dyn stop (commands_of round thing) desk.old desk.new) }
+fn run_for<K: Keeper>(
+    alloc: Global,
+    desk: &mut Desk<K>,
+    round: Round,
+    thing: u16,
+) -> Result<(), Stop>
+    requires kept { IsKept ⟦<K as Keeper>⟧ desk.old.keeper (tables_of desk.old.state) }
+    ensures all { OnOk result (RanAll ⟦<K as Keeper>⟧ (commands_of round thing) desk.old desk.new) }
+    ensures part { IfErr result (λ stop. RanPart ⟦<K as Keeper>⟧ stop (commands_of round thing) desk.old desk.new) }
 {
     match round {
         Round::Announcements => run(desk, announcement(alloc, thing)?),
@@ -86,10 +92,15 @@ fn run_for(alloc: Global, desk: &mut Desk, round: Round, thing: u16) -> Result<(
 }
 
 /// A round over the Things from 1 on, so many.
-fn run_round(alloc: Global, desk: &mut Desk, round: Round, count: u16) -> Result<(), Stop>
-    requires kept { IsKept Keeper-dyn desk.old.keeper (tables_of desk.old.state) }
-    ensures all { OnOk result (RanAll Keeper-dyn (round_commands round count) desk.old desk.new) }
-    ensures part { IfErr result (λ stop. RanPart Keeper-dyn stop (round_commands round count) desk.old desk.new) }
+fn run_round<K: Keeper>(
+    alloc: Global,
+    desk: &mut Desk<K>,
+    round: Round,
+    count: u16,
+) -> Result<(), Stop>
+    requires kept { IsKept ⟦<K as Keeper>⟧ desk.old.keeper (tables_of desk.old.state) }
+    ensures all { OnOk result (RanAll ⟦<K as Keeper>⟧ (round_commands round count) desk.old desk.new) }
+    ensures part { IfErr result (λ stop. RanPart ⟦<K as Keeper>⟧ stop (round_commands round count) desk.old desk.new) }
 {
     for before in 0..count {
         run_for(alloc, desk, round, before + 1)?;
@@ -98,10 +109,14 @@ fn run_round(alloc: Global, desk: &mut Desk, round: Round, count: u16) -> Result
 }
 
 /// All commands of a drill with so many packets.
-pub(crate) fn run_commands(alloc: Global, desk: &mut Desk, packets: u32) -> Result<(), Stop>
-    requires kept { IsKept Keeper-dyn desk.old.keeper (tables_of desk.old.state) }
-    ensures all { OnOk result (RanAll Keeper-dyn (drill_commands packets) desk.old desk.new) }
-    ensures part { IfErr result (λ stop. RanPart Keeper-dyn stop (drill_commands packets) desk.old desk.new) }
+pub(crate) fn run_commands<K: Keeper>(
+    alloc: Global,
+    desk: &mut Desk<K>,
+    packets: u32,
+) -> Result<(), Stop>
+    requires kept { IsKept ⟦<K as Keeper>⟧ desk.old.keeper (tables_of desk.old.state) }
+    ensures all { OnOk result (RanAll ⟦<K as Keeper>⟧ (drill_commands packets) desk.old desk.new) }
+    ensures part { IfErr result (λ stop. RanPart ⟦<K as Keeper>⟧ stop (drill_commands packets) desk.old desk.new) }
 {
     let things = thing_count(packets);
     let files = file_count(packets);

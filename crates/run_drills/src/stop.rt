@@ -3,6 +3,7 @@ ghost use Rattle.std.specs.Prelude.{◌≡◌};
 ghost use Rattle.run_common.specs.Status.{status_number};
 
 use mud_base::Memory;
+use mud_world::Keeper;
 use run_common::Status;
 
 /// Why a drill ends before all its commands ran, or before its lines were made.

@@ -15,7 +15,7 @@ use std::alloc::Global;
 
 /// Opens a desk over the keeper, and drills it with so many packets: the commands of the made network
 /// run, each kept as ever, its packets are judged, and the counts are written. Nothing was taken
-/// before, as [`Desk::open`] wants it: [`Loaded::new`]. The box is handed back.
+/// before, as [`Desk::open`] wants it: [`Loaded::new`]. The keeper is handed back.
 ///
 /// | Status | It comes |
 /// |---|---|
@@ -25,15 +25,15 @@ use std::alloc::Global;
 /// | 5 | want of memory: some of the commands ran, from the first on |
 /// | 6 | an item of the store is no record: the line that names it was written |
 /// | 7 | the keeper failed: the commands before the failed one ran, and nothing was written |
-pub fn run_drill<D: Door>(
+pub fn run_drill<K: Keeper, D: Door>(
     alloc: Global,
-    keeper: Box<dyn Keeper>,
+    keeper: K,
     nothing: Loaded,
     packets: u32,
     door: &mut D,
-) -> (Status, Box<dyn Keeper>)
+) -> (Status, K)
     requires { kept_of nothing ≡ none_kept }
-    ensures drilled { DrillsStore Keeper-dyn D.tells packets keeper result.1
+    ensures drilled { DrillsStore ⟦<K as Keeper>⟧ D.tells packets keeper result.1
         (D.view door.old)
         (D.view door.new)
         (status_number result.0) }

@@ -1,9 +1,7 @@
 -- What a run of `report` promises where the desk is opened, and where it isn't.
 use Rattle.std.proofs.Common.{◌≡◌, ◌≢◌, ℕ, ◌⊎◌, inl, inr, List, Option, sym, subst, arith}
-use Rattle.std.specs.declared.dyn_box.DynBox.{DynBox}
-use Rattle.std.specs.declared.alloc.Global.{Global}
 use Rattle.mud_world.specs.declared.keeper.Keeper.{Ghosts}
-use Rattle.mud_world.specs.Boxed.{faults_of, Tells, kept_items}
+use Rattle.mud_world.specs.Kept.{faults_of, Tells, kept_items, Rests}
 use Rattle.mud_world.specs.Causes.{StopsAtFailure}
 use Rattle.mud_world.specs.Door.{DoorState, put_out}
 use Rattle.run_words.specs.declared.command.ReportKind.{ReportKind}
@@ -11,7 +9,7 @@ use Rattle.run_common.specs.Output.{WroteFirst}
 use Rattle.mud_world.specs.View.{DoorView}
 use Rattle.desk_model.specs.DeskTables.{DeskTables, IsSound}
 use Rattle.desk_model.specs.Keeping.{KeepsDesk}
-use Rattle.desk_model.specs.Boxed.{IsKept, IsSameBox}
+use Rattle.desk_model.specs.Kept.{IsKept}
 use Rattle.run_desk.proofs.Refusals.{RunsRefused}
 use Rattle.run_desk.proofs.Stores.{keeps_tables, leaves_opened}
 use Rattle.run_reports.specs.Store.{ReportsStore, WritesTable}
@@ -54,26 +52,27 @@ module _ (kind : ReportKind) (clock_tells : Type 0) (moments : List ℕ) (old ne
 
 -- ---- Runs
 
-module _ {X : Type 0} {F : X → Type 0} (members : (v : (x : X) × F x) → Ghosts (F v.0)) (keeper after : DynBox X Global F) (kind : ReportKind) (tells clock_tells : Type 0) (moments : List ℕ) (old new : DoorView) (status : ℕ) where
+module _ {K : Type 0} (members : Ghosts K) (keeper after : K) (kind : ReportKind) (tells clock_tells : Type 0) (moments : List ℕ) (old new : DoorView) (status : ℕ) where
   pub opened_run : (tables : DeskTables)
       → (Tells members keeper → Tells members after → KeepsDesk (kept_items members keeper) tables)
-      → IsSound tables → IsKept members after tables → faults_of members after ≡ faults_of members keeper → IsSameBox keeper after
+      → IsSound tables → IsKept members after tables → faults_of members after ≡ faults_of members keeper
+      → (Tells members after → Tells members keeper) → (Tells members after → Rests members after)
       → IsOfTable status
       → (status ≡ 4 → StopsAtFailure new.failed old.writes new.writes)
       → (status ≢ 4 → new.writes ≡ old.writes)
       → (tells → WritesTable kind clock_tells moments old.state new.state status tables)
-      → new.turns ≡ old.turns → new.reads ≡ old.reads → (returned : DynBox X Global F) → returned ≡ after
+      → new.turns ≡ old.turns → new.reads ≡ old.reads → (returned : K) → returned ≡ after
       → ReportsStore members kind tells clock_tells moments keeper returned old new status
-  opened_run tables read sound kept same_count same_box is fault steady writes turns reads returned same = subst (λ (box : DynBox X Global F). ReportsStore members kind tells clock_tells moments keeper box old new status) (sym same) (record {
+  opened_run tables read sound kept same_count back rests is fault steady writes turns reads returned same = subst (λ (it : K). ReportsStore members kind tells clock_tells moments keeper box old new status) (sym same) (record {
     honest = record {
       statuses = of_table status is;
       fault = fault;
       steady = steady;
       keeper_fault = λ seven. no_seven status is seven;
-      same_box = same_box;
+      told = back;
     };
     writes = λ told tell. inl (tables, keeps_tables members after tables sound kept tell, writes told);
-    leaves = leaves_opened members keeper after status tables read sound kept same_count (λ six. no_six status is six);
+    leaves = leaves_opened members keeper after status tables rests read sound kept same_count (λ six. no_six status is six);
     same_turns = turns;
     same_reads = reads;
   })
@@ -85,7 +84,7 @@ module _ {X : Type 0} {F : X → Type 0} (members : (v : (x : X) × F x) → Gho
       fault = run.honest.fault;
       steady = run.honest.steady;
       keeper_fault = run.honest.keeper_fault;
-      same_box = run.honest.same_box;
+      told = run.honest.told;
     };
     writes = λ told tell. inr (run.refuses told tell);
     leaves = run.leaves;

@@ -17,18 +17,18 @@ use std::alloc::Global;
 
 /// Opens a desk over the keeper, and then writes one of its tables, a row after the other in the
 /// order in which they are listed. Nothing is read of the door. Where the store can't be opened, no
-/// row is written, and the clock isn't asked. The box is handed back. Nothing was taken before, as
+/// row is written, and the clock isn't asked. The keeper is handed back. Nothing was taken before, as
 /// [`Desk::open`] wants it: [`Loaded::new`].
-pub fn report_store<D: Door, C: Clock>(
+pub fn report_store<K: Keeper, D: Door, C: Clock>(
     alloc: Global,
-    keeper: Box<dyn Keeper>,
+    keeper: K,
     nothing: Loaded,
     kind: ReportKind,
     door: &mut D,
     clock: &mut C,
-) -> (Status, Box<dyn Keeper>)
+) -> (Status, K)
     requires { kept_of nothing ≡ none_kept }
-    ensures reported { ReportsStore Keeper-dyn kind D.tells C.tells (C.moments clock.old) keeper result.1
+    ensures reported { ReportsStore ⟦<K as Keeper>⟧ kind D.tells C.tells (C.moments clock.old) keeper result.1
         (D.view door.old)
         (D.view door.new)
         (status_number result.0) }

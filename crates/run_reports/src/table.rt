@@ -2,7 +2,7 @@
 ghost use Rattle.std.specs.Prelude.{◌≡◌, false, OnOk, OnErr, IsTrue, [], ◌∷◌};
 ghost use Rattle.mud_world.specs.Causes.{Counts};
 ghost use Rattle.mud_world.specs.Door.{put_out};
-ghost use Rattle.desk_model.specs.Boxed.{IsKept};
+ghost use Rattle.desk_model.specs.Kept.{IsKept};
 ghost use Rattle.mud_desk.specs.DeskState.{tables_of};
 ghost use Rattle.run_common.specs.Ends.{IsStoppedWriting};
 ghost use Rattle.run_common.specs.Output.{WroteFirst};
@@ -51,9 +51,9 @@ fn ask_clock<C: Clock>(kind: ReportKind, clock: &mut C) -> Option<Moment>
 
 /// Writes a table of the desk, a row after the other.
 #[tactic(auto, unfolding(crate::specs::Tables::table_text))]
-fn write_table<D: Door>(
+fn write_table<K: Keeper, D: Door>(
     alloc: Global,
-    desk: &Desk,
+    desk: &Desk<K>,
     kind: ReportKind,
     clock: Option<Moment>,
     door: &mut D,
@@ -81,9 +81,9 @@ fn write_table<D: Door>(
 }
 
 /// Writes a table of the desk. The answer says how that ended.
-fn report_table<D: Door>(
+fn report_table<K: Keeper, D: Door>(
     alloc: Global,
-    desk: &Desk,
+    desk: &Desk<K>,
     kind: ReportKind,
     clock: Option<Moment>,
     door: &mut D,
@@ -111,14 +111,14 @@ fn report_table<D: Door>(
 /// | 0 | the table was written |
 /// | 4 | a write of the door failed: a first part was written |
 /// | 5 | want of memory: a first part was written, and no line says so |
-pub(crate) fn report_desk<D: Door, C: Clock>(
+pub(crate) fn report_desk<K: Keeper, D: Door, C: Clock>(
     alloc: Global,
-    desk: Desk,
+    desk: Desk<K>,
     kind: ReportKind,
     door: &mut D,
     clock: &mut C,
-) -> (Status, Box<dyn Keeper>)
-    requires { IsKept Keeper-dyn desk.keeper (tables_of desk.state) }
+) -> (Status, K)
+    requires { IsKept ⟦<K as Keeper>⟧ desk.keeper (tables_of desk.state) }
     ensures statuses { IsOneOf (Done ∷ DoorFailed ∷ NoMemory ∷ []) (status_number result.0) }
     ensures fault { Is DoorFailed (status_number result.0) → IsStoppedWriting (D.view door.old) (D.view door.new) }
     ensures steady { IsNot DoorFailed (status_number result.0) → (D.view door.new).writes ≡ (D.view door.old).writes }

@@ -3,7 +3,6 @@ use crate::bulb::BULB;
 use crate::items::{AT_2000, AT_2001, BULB_URL};
 use crate::memory::{Call, File, Kept, NONE, Run, keeper_of, outside_of};
 use crate::runs::{check_over, check_with};
-use mud_world::Keeper;
 
 /// One usage file under two names, and a name that is skipped, in another order than that in which
 /// they are imported.
@@ -132,7 +131,6 @@ fn a_folder_is_imported_twice(rt: HostRuntime) {
     let mut outside = outside_of(&rt, alloc, once.connections, &FILES, &[], once);
     let mut later = outside_of(&rt, alloc, again.connections, &FILES, &[], again);
     let keeper = keeper_of(&rt, alloc, &[], NONE);
-    let keeper: Box<dyn Keeper> = Box::new(alloc, keeper).expect(&rt, "memory");
     let keeper = check_over(&rt, alloc, 1, keeper, &mut outside, once);
     drop(check_over(&rt, alloc, 2, keeper, &mut later, again));
 }

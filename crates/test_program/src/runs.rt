@@ -1,7 +1,7 @@
 //! Runs of the program, and what comes of them.
 use crate::memory::{File, Kept, Outside, Run, keeper_of, outside_of};
 use mud_cli::mud_main;
-use mud_world::{Item, Keeper, MemoryDoor};
+use mud_world::{Item, Keeper, MemoryDoor, MemoryKeeper};
 use std::alloc::Global;
 use std::process::Abort;
 
@@ -41,7 +41,7 @@ fn check_kept(
     rt: &impl Abort,
     alloc: Global,
     number: usize,
-    keeper: &mut Box<dyn Keeper>,
+    keeper: &mut MemoryKeeper,
     kept: &[Item],
 ) {
     let items = keeper.open(alloc).expect(rt, "the items");
@@ -51,12 +51,8 @@ fn check_kept(
     }
 }
 
-/// Runs the program over this box, and answers its status and the box.
-fn run_over(
-    alloc: Global,
-    keeper: Box<dyn Keeper>,
-    outside: &mut Outside,
-) -> (u8, Box<dyn Keeper>) {
+/// Runs the program over this keeper, and answers its status and the keeper.
+fn run_over(alloc: Global, keeper: MemoryKeeper, outside: &mut Outside) -> (u8, MemoryKeeper) {
     mud_main(
         alloc,
         &outside.words,
@@ -67,16 +63,16 @@ fn run_over(
     )
 }
 
-/// Runs the program over this box, and this comes of it. The number is that of the run in its table.
-/// The box is handed back.
+/// Runs the program over this keeper, and this comes of it. The number is that of the run in its
+/// table. The keeper is handed back.
 pub(crate) fn check_over(
     rt: &impl Abort,
     alloc: Global,
     number: usize,
-    keeper: Box<dyn Keeper>,
+    keeper: MemoryKeeper,
     outside: &mut Outside,
     run: &Run<'_>,
-) -> Box<dyn Keeper> {
+) -> MemoryKeeper {
     let (status, mut keeper) = run_over(alloc, keeper, outside);
     assert_eq!(rt; status, run.status, "run {number}");
     check_written(rt, number, &outside.door, run.written);
@@ -94,7 +90,6 @@ pub(crate) fn check_in(
     run: &Run<'_>,
 ) {
     let keeper = keeper_of(rt, alloc, kept, run.failing);
-    let keeper: Box<dyn Keeper> = Box::new(alloc, keeper).expect(rt, "memory");
     drop(check_over(rt, alloc, number, keeper, outside, run));
 }
 

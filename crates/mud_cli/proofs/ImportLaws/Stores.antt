@@ -1,9 +1,7 @@
 -- What a run of `import` promises where a desk is opened, and where none is.
 use Rattle.std.proofs.Common.{◌≡◌, ◌≢◌, ℕ, ◌⊎◌, inl, inr, List, sym, ap, ap₂, subst, ◌∙◌, arith}
-use Rattle.std.specs.declared.dyn_box.DynBox.{DynBox}
-use Rattle.std.specs.declared.alloc.Global.{Global}
 use Rattle.mud_world.specs.declared.keeper.Keeper.{Ghosts}
-use Rattle.mud_world.specs.Boxed.{faults_of, Tells, kept_items}
+use Rattle.mud_world.specs.Kept.{faults_of, Tells, kept_items}
 use Rattle.mud_world.specs.Causes.{Rose}
 use Rattle.mud_world.specs.Door.{DoorState}
 use Rattle.mud_world.specs.Files.{names_of}
@@ -11,12 +9,11 @@ use Rattle.run_common.specs.Ends.{IsStoppedByDoorOrSpool}
 use Rattle.desk_model.specs.DeskTables.{IsSound}
 use Rattle.desk_model.specs.Keeping.{KeepsDesk}
 use Rattle.desk_model.specs.Sessions.{Session, opened}
-use Rattle.desk_model.specs.Boxed.{IsSameBox}
 use Rattle.mud_desk.specs.DeskState.{DeskState, session_of, tables_of}
 use Rattle.mud_desk.specs.declared.desk.Desk.{Desk}
 use Rattle.mud_desk.specs.Stays.{StaysKept}
 use Rattle.run_desk.proofs.Refusals.{RunsRefused, is_refused}
-use Rattle.run_desk.proofs.Stores.{not_seven}
+use Rattle.run_desk.proofs.Stores.{is_kept_or, not_seven}
 use Rattle.mud_cli.specs.Import.Scenes.{standing, scene}
 use Rattle.mud_cli.specs.Import.Order.{in_order}
 use Rattle.mud_cli.specs.Import.Runs.{Scene, ImportsPart, ImportsAll}
@@ -50,10 +47,10 @@ scene_begun : (state : DeskState) (moments : List ℕ) (door : DoorState) (a b :
 unfolding scene standing
 scene_begun state moments door a b begun same = ap₂ (λ (s : Session) (n : ℕ). scene_of s moments door n) begun same
 
-module _ {X : Type 0} {F : X → Type 0} (members : (v : (x : X) × F x) → Ghosts (F v.0)) (keeper : DynBox X Global F) (tells : Type 0) (old new : OutsideView) (status : ℕ) where
-  pub imported_run : (desk ended : Desk X F)
+module _ {K : Type 0} (members : Ghosts K) (keeper : K) (tells : Type 0) (old new : OutsideView) (status : ℕ) where
+  pub imported_run : (desk ended : Desk K)
       → (Tells members keeper → Tells members desk.keeper → KeepsDesk (kept_items members keeper) (tables_of desk.state))
-      → IsSound (tables_of desk.state) → session_of desk.state ≡ opened (tables_of desk.state) → faults_of members desk.keeper ≡ faults_of members keeper → IsSameBox keeper desk.keeper
+      → IsSound (tables_of desk.state) → session_of desk.state ≡ opened (tables_of desk.state) → faults_of members desk.keeper ≡ faults_of members keeper → (Tells members desk.keeper → Tells members keeper)
       → StaysKept members desk ended → IsSound (tables_of ended.state)
       → IsOfImport status
       → (status ≡ 4 → IsStoppedByDoorOrSpool old.door new.door old.spool new.spool)
@@ -66,17 +63,17 @@ module _ {X : Type 0} {F : X → Type 0} (members : (v : (x : X) × F x) → Gho
       (scene ended.state new.moments new.door.state (faults_of members ended.keeper)))
       → (tells → new.spool.files ≡ old.spool.files)
       → new.door.turns ≡ old.door.turns → new.door.reads ≡ old.door.reads
-      → (returned : DynBox X Global F) → returned ≡ ended.keeper → ImportsStore members tells keeper returned old new status
+      → (returned : K) → returned ≡ ended.keeper → ImportsStore members tells keeper returned old new status
   unfolding scene standing session_of
-  imported_run desk ended read sound begins same_count same_box stays sound_after is fault steady failed unfailed all part files turns reads returned same =
+  imported_run desk ended read sound begins same_count back stays sound_after is fault steady failed unfailed all part files turns reads returned same =
       let first = scene_begun desk.state old.moments old.door.state (faults_of members desk.keeper) (faults_of members keeper) begins same_count in
-      subst (λ (box : DynBox X Global F). ImportsStore members tells keeper box old new status) (sym same) (record {
+      subst (λ (it : K). ImportsStore members tells keeper it old new status) (sym same) (record {
         honest = record {
           statuses = of_import status is;
           fault = fault;
           steady = steady;
           keeper_fault = λ seven. subst (λ (n : ℕ). Rose n (faults_of members ended.keeper)) same_count (failed seven);
-          same_box = record { object = stays.same_box.object ∙ same_box.object; pointer = stays.same_box.pointer ∙ same_box.pointer };
+          told = λ now. back (stays.told now);
         };
         keeper_steady = λ which. unfailed (read_of_import status is which) ∙ same_count;
         runs = λ told tell. inl (record {
@@ -101,7 +98,7 @@ module _ {X : Type 0} {F : X → Type 0} (members : (v : (x : X) × F x) → Gho
 
 -- ---- A store that isn't opened
 
-module _ {X : Type 0} {F : X → Type 0} (members : (v : (x : X) × F x) → Ghosts (F v.0)) (keeper after : DynBox X Global F) (tells : Type 0) (old new : OutsideView) (status : ℕ) where
+module _ {K : Type 0} (members : Ghosts K) (keeper after : K) (tells : Type 0) (old new : OutsideView) (status : ℕ) where
   pub refused_import : RunsRefused members tells keeper after old.door new.door status → new.spool ≡ old.spool → new.moments ≡ old.moments
       → ImportsStore members tells keeper after old new status
   refused_import run spool moments = record {
@@ -110,11 +107,11 @@ module _ {X : Type 0} {F : X → Type 0} (members : (v : (x : X) × F x) → Gho
       fault = λ four. inl (run.honest.fault four, ap (λ (s : SpoolView). s.faults) spool);
       steady = λ other. (run.honest.steady other, ap (λ (s : SpoolView). s.faults) spool);
       keeper_fault = run.honest.keeper_fault;
-      same_box = run.honest.same_box;
+      told = run.honest.told;
     };
     keeper_steady = λ which. run.leaves.keeper_steady (not_seven status which);
-    runs = λ told tell. inr (record { refused = is_refused members keeper after tells old.door new.door status run told tell; same_spool = spool; same_moments = moments });
-    kept = run.leaves.kept;
+    runs = λ told tell. inr (record { refused = is_refused members keeper after tells old.door new.door status run told tell; same_spool = spool; same_moments = moments; keeper_steady = run.leaves.keeper_steady });
+    kept = is_kept_or run.leaves.kept;
     same_files = λ told. ap (λ (s : SpoolView). s.files) spool;
     same_turns = run.same_turns;
     same_reads = run.same_reads;

@@ -1,16 +1,14 @@
 -- What requests leave of a desk, once its keeper is handed back.
 use Rattle.std.proofs.Common.{◌≡◌, ℕ, zero, suc, Bool, List, refl, sym, ap, ◌∙◌, subst, arith}
 use Rattle.std.specs.List.{count_by}
-use Rattle.std.specs.declared.dyn_box.DynBox.{DynBox}
-use Rattle.std.specs.declared.alloc.Global.{Global}
 use Rattle.mud_world.specs.declared.keeper.Keeper.{Ghosts}
-use Rattle.mud_world.specs.Boxed.{faults_of}
+use Rattle.mud_world.specs.Kept.{faults_of}
 use Rattle.mud_world.specs.Causes.{Rose}
 use Rattle.mud_world.specs.Door.{DoorState}
 use Rattle.mud_world.specs.View.{DoorView}
 use Rattle.desk_model.specs.DeskTables.{DeskTables}
 use Rattle.desk_model.specs.Sessions.{Session}
-use Rattle.desk_model.specs.Boxed.{IsKept}
+use Rattle.desk_model.specs.Kept.{IsKept}
 use Rattle.mud_desk.specs.DeskState.{DeskState, session_of, tables_of}
 use Rattle.http_requests.specs.declared.fault.MomentFrom.{MomentFrom}
 use Rattle.http_requests.specs.declared.end.ConnectionEnd.{ConnectionEnd}
@@ -66,11 +64,11 @@ in_turn_before tells keeps s from failed count first mid new same_state same_rea
 
 -- ---- The keeper
 
-module _ {X : Type 0} {F : X → Type 0} (members : (v : (x : X) × F x) → Ghosts (F v.0)) (tells : Type 0) (after returned : DynBox X Global F) (state : DeskState) (moments : List ℕ) (faults : ℕ) where
+module _ {K : Type 0} (members : Ghosts K) (tells : Type 0) (after returned : K) (state : DeskState) (moments : List ℕ) (faults : ℕ) where
   pub leaves : IsKept members after (tables_of state) → returned ≡ after → (s : ConsoleState) → IsAt tells state moments faults (faults_of members after) s
       → LeavesDesk members tells faults returned moments s
   leaves kept same s at =
-      subst (λ (box : DynBox X Global F). LeavesDesk members tells faults box moments s) (sym same) (record {
+      subst (λ (it : K). LeavesDesk members tells faults box moments s) (sym same) (record {
         kept = subst (λ (desk : DeskTables). IsKept members after desk) (sym (ap (λ (session : Session). session.desk) at.session ∙ desk_of_session state)) kept;
         clock = at.clock;
         paid = at.paid;

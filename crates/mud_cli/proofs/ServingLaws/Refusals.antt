@@ -1,16 +1,14 @@
 -- What is done where no connection is served.
 use Rattle.std.proofs.Common.{◌≡◌, ℕ, Bool, inl, inr, List, [], refl, sym, subst, arith}
-use Rattle.std.specs.declared.dyn_box.DynBox.{DynBox}
-use Rattle.std.specs.declared.alloc.Global.{Global}
 use Rattle.mud_world.specs.declared.keeper.Keeper.{Ghosts}
 use Rattle.mud_world.specs.declared.item.Item.{Item}
-use Rattle.mud_world.specs.Boxed.{faults_of, Tells, kept_items}
+use Rattle.mud_world.specs.Kept.{faults_of, Tells, kept_items, Rests}
 use Rattle.mud_world.specs.Causes.{Rose, StopsAtFailure}
 use Rattle.mud_world.specs.View.{DoorView}
 use Rattle.mud_world.proofs.Doors.{put_out_none}
 use Rattle.desk_model.specs.DeskTables.{DeskTables, IsSound}
 use Rattle.desk_model.specs.Keeping.{KeepsDesk}
-use Rattle.desk_model.specs.Boxed.{IsKept, IsSameBox}
+use Rattle.desk_model.specs.Kept.{IsKept}
 use Rattle.run_desk.specs.Refused.{RefusesStore}
 use Rattle.run_desk.proofs.Refusals.{RunsRefused}
 use Rattle.run_desk.proofs.Stores.{leaves_opened}
@@ -20,7 +18,7 @@ use Rattle.mud_cli.specs.Serving.Store.{ServesNone}
 pub rose_at_failure : (has_failed : Bool) (before now : ℕ) → StopsAtFailure has_failed before now → Rose before now
 rose_at_failure has_failed before now stop = omega (arith, stop.once)
 
-module _ {X : Type 0} {F : X → Type 0} (members : (v : (x : X) × F x) → Ghosts (F v.0)) (keeper after : DynBox X Global F) (tells : Type 0) where
+module _ {K : Type 0} (members : Ghosts K) (keeper after : K) (tells : Type 0) where
   -- the store was refused
   pub refused_none : (old new : DoorView) (status : ℕ) → RunsRefused members tells keeper after old new status → ServesNone members tells keeper after old new status
   refused_none old new status run = record {
@@ -35,22 +33,23 @@ module _ {X : Type 0} {F : X → Type 0} (members : (v : (x : X) × F x) → Gho
   -- a desk was opened, and there was no memory to serve with
   pub memory_none : (view : DoorView) (tables : DeskTables)
       → (Tells members keeper → Tells members after → KeepsDesk (kept_items members keeper) tables)
-      → IsSound tables → IsKept members after tables → faults_of members after ≡ faults_of members keeper → IsSameBox keeper after
-      → (returned : DynBox X Global F) → returned ≡ after → ServesNone members tells keeper returned view view 5
-  memory_none view tables read sound kept same_count same_box returned same =
-      subst (λ (box : DynBox X Global F). ServesNone members tells keeper box view view 5) (sym same) (record {
+      → IsSound tables → IsKept members after tables → faults_of members after ≡ faults_of members keeper
+      → (Tells members after → Tells members keeper) → (Tells members after → Rests members after)
+      → (returned : K) → returned ≡ after → ServesNone members tells keeper returned view view 5
+  memory_none view tables read sound kept same_count back rests returned same =
+      subst (λ (it : K). ServesNone members tells keeper it view view 5) (sym same) (record {
         honest = record {
           statuses = inr (inl refl);
           fault = λ four. absurd (omega (arith, four));
           steady = λ other. refl;
           keeper_fault = λ seven. absurd (omega (arith, seven));
-          same_box = same_box;
+          told = back;
         };
         same_turns = refl;
         same_reads = refl;
         says = λ told tell. nothing_said (kept_items members after);
         only_writes = λ told. record { text = []; wrote = sym (put_out_none view.state) };
-        leaves = leaves_opened members keeper after 5 tables read sound kept same_count (λ six. absurd (omega (arith, six)));
+        leaves = leaves_opened members keeper after 5 tables rests read sound kept same_count (λ six. absurd (omega (arith, six)));
       })
     where
       nothing_said : (items : List Item) → RefusesStore items view.state view.state 5

@@ -1,15 +1,13 @@
 -- What a run of `replay` promises where the connection is served, and where it isn't.
 use Rattle.std.proofs.Common.{◌≡◌, ◌≢◌, ℕ, ◌⊎◌, inl, inr, [], refl, ap, subst, ◌∙◌, arith}
-use Rattle.std.specs.declared.dyn_box.DynBox.{DynBox}
-use Rattle.std.specs.declared.alloc.Global.{Global}
 use Rattle.mud_world.specs.declared.keeper.Keeper.{Ghosts}
-use Rattle.mud_world.specs.Boxed.{faults_of, Tells, kept_items}
+use Rattle.mud_world.specs.Kept.{faults_of, Tells, kept_items}
 use Rattle.mud_world.specs.Causes.{Rose}
 use Rattle.mud_world.specs.View.{DoorView}
 use Rattle.desk_model.specs.DeskTables.{DeskTables, IsSound}
 use Rattle.desk_model.specs.Keeping.{KeepsDesk}
 use Rattle.desk_model.specs.Sessions.{Session, opened}
-use Rattle.desk_model.specs.Boxed.{IsKept, IsSameBox}
+use Rattle.desk_model.specs.Kept.{IsKept}
 use Rattle.mud_desk.specs.DeskState.{DeskState, session_of, tables_of}
 use Rattle.http_requests.specs.declared.fault.MomentFrom.TheVariants.{Header}
 use Rattle.http_requests.specs.Doors.{ReadsAndWrites}
@@ -78,8 +76,8 @@ module _ (status : ℕ) (old new : DoorView) where
 
 -- ---- The connection
 
-module _ {X : Type 0} {F : X → Type 0} (members : (v : (x : X) × F x) → Ghosts (F v.0)) where
-  pub replayed : (tells : Type 0) (tables : DeskTables) (state ended : DeskState) (faults : ℕ) (after returned : DynBox X Global F) (end : ConnectionEnd) (old new : DoorView) (status : ℕ)
+module _ {K : Type 0} (members : Ghosts K) where
+  pub replayed : (tells : Type 0) (tables : DeskTables) (state ended : DeskState) (faults : ℕ) (after returned : K) (end : ConnectionEnd) (old new : DoorView) (status : ℕ)
       → session_of state ≡ opened tables → IsKept members after (tables_of ended) → returned ≡ after → status ≡ status_at end
       → IsLeftBy (ConsoleStep (Unit {0})) (IsAt (Unit {0}) ended [] faults (faults_of members after)) (begun (session_of state) [])
       → (tells → IsServed (ConsoleStep (Unit {0})) fault_answer Header (IsAt (Unit {0}) ended [] faults (faults_of members after)) end (begun (session_of state) []) old new)
@@ -98,7 +96,7 @@ module _ {X : Type 0} {F : X → Type 0} (members : (v : (x : X) × F x) → Gho
 
   -- ---- The store
 
-  module _ (tells : Type 0) (keeper returned : DynBox X Global F) (old new : DoorView) (status : ℕ) where
+  module _ (tells : Type 0) (keeper returned : K) (old new : DoorView) (status : ℕ) where
     pub replays_none : ServesNone members tells keeper returned old new status → ReplaysStore members tells keeper returned old new status
     replays_none p = record {
       honest = reads_honestly members keeper returned old new status p.honest p.same_reads;
@@ -114,19 +112,19 @@ module _ {X : Type 0} {F : X → Type 0} (members : (v : (x : X) × F x) → Gho
         none_complete none (inr (inr (inl six))) = inr (inr (inr six))
         none_complete none (inr (inr (inr seven))) = absurd (none.keeper (p.honest.keeper_fault seven))
 
-    pub replays_opened : (tables : DeskTables) (begins : DynBox X Global F)
+    pub replays_opened : (tables : DeskTables) (begins : K)
         → (Tells members keeper → Tells members begins → KeepsDesk (kept_items members keeper) tables)
-        → IsSound tables → faults_of members begins ≡ faults_of members keeper → IsSameBox keeper begins
+        → IsSound tables → faults_of members begins ≡ faults_of members keeper → (Tells members begins → Tells members keeper)
         → ReplaysConnection members tells tables (faults_of members begins) returned old new status
-        → (Tells members returned → Tells members begins) → IsSameBox begins returned
+        → (Tells members returned → Tells members begins)
         → ReplaysStore members tells keeper returned old new status
-    replays_opened tables begins read sound same_count box run told same_box = record {
+    replays_opened tables begins read sound same_count back run told = record {
       honest = record {
         statuses = statuses_at run.end status run.status_is;
         fault = fault_at status old new run.end run.status_is run.calls;
         steady = steady_at status old new run.end run.status_is run.calls;
         keeper_fault = λ seven. at_most_four run.end status run.status_is (inr (inr seven));
-        same_box = record { object = same_box.object ∙ box.object; pointer = same_box.pointer ∙ box.pointer };
+        told = λ now. back (told now);
       };
       runs = inl (record {
         tables = tables;

@@ -1,16 +1,14 @@
 -- What a run of `serve` promises where connections are served, and where they aren't.
 use Rattle.std.proofs.Common.{◌≡◌, ◌≢◌, ℕ, ◌⊎◌, inl, inr, Bool, true, false, IsTrue, cond, List, [], refl, ap, subst, ◌∙◌, arith}
-use Rattle.std.specs.declared.dyn_box.DynBox.{DynBox}
-use Rattle.std.specs.declared.alloc.Global.{Global}
 use Rattle.mud_world.specs.declared.keeper.Keeper.{Ghosts}
-use Rattle.mud_world.specs.Boxed.{faults_of, Tells, kept_items}
+use Rattle.mud_world.specs.Kept.{faults_of, Tells, kept_items}
 use Rattle.mud_world.specs.Causes.{Counts, Rose, StopsAtFailure}
 use Rattle.mud_world.specs.Door.{bound_anew}
 use Rattle.mud_world.specs.View.{DoorView}
 use Rattle.desk_model.specs.DeskTables.{DeskTables, IsSound}
 use Rattle.desk_model.specs.Keeping.{KeepsDesk}
 use Rattle.desk_model.specs.Sessions.{Session, opened}
-use Rattle.desk_model.specs.Boxed.{IsKept, IsSameBox}
+use Rattle.desk_model.specs.Kept.{IsKept}
 use Rattle.mud_desk.specs.DeskState.{DeskState, session_of, tables_of}
 use Rattle.http_requests.specs.declared.fault.MomentFrom.TheVariants.{Clock}
 use Rattle.http_requests.specs.Runs.{IsLeftBy}
@@ -51,11 +49,11 @@ complete_by : (failed : Bool) (status before now : ℕ) → status ≡ status_by
 complete_by true status before now is turns no_turn = absurd (no_turn (turns.rose refl))
 complete_by false status before now is turns no_turn = inl is
 
-module _ {X : Type 0} {F : X → Type 0} (members : (v : (x : X) × F x) → Ghosts (F v.0)) where
-  module _ (tells clock_tells : Type 0) (tables : DeskTables) (state : DeskState) (is : session_of state ≡ opened tables) (returned : DynBox X Global F) (at : Listening) where
+module _ {K : Type 0} (members : Ghosts K) where
+  module _ (tells clock_tells : Type 0) (tables : DeskTables) (state : DeskState) (is : session_of state ≡ opened tables) (returned : K) (at : Listening) where
     -- ---- The port couldn't be bound
 
-    pub unbound : (begins : DynBox X Global F) (moments : List ℕ) (old new : DoorView) (status : ℕ) → IsKept members begins (tables_of state) → returned ≡ begins → status ≡ 4
+    pub unbound : (begins : K) (moments : List ℕ) (old new : DoorView) (status : ℕ) → IsKept members begins (tables_of state) → returned ≡ begins → status ≡ 4
         → Counts true old.turns new.turns → StopsAtFailure new.failed old.turns new.turns → (tells → new.state ≡ old.state) → new.reads ≡ old.reads → new.writes ≡ old.writes
         → ServesConnections members tells clock_tells tables (faults_of members begins) returned at (clock_run moments moments) old new status
     unbound begins moments old new status kept same status_is turns stop untouched reads writes =
@@ -74,7 +72,7 @@ module _ {X : Type 0} {F : X → Type 0} (members : (v : (x : X) × F x) → Gho
 
     -- ---- The connections
 
-    pub served_here : (ended : DeskState) (faults : ℕ) (after : DynBox X Global F) (failed : Bool) (moments moments_after : List ℕ) (old mid new : DoorView) (status : ℕ)
+    pub served_here : (ended : DeskState) (faults : ℕ) (after : K) (failed : Bool) (moments moments_after : List ℕ) (old mid new : DoorView) (status : ℕ)
         → IsKept members after (tables_of ended) → returned ≡ after → status ≡ status_by failed
         → (tells → mid.state ≡ bound_anew at.port old.state) → Counts false old.turns mid.turns → mid.reads ≡ old.reads → mid.writes ≡ old.writes
         → IsLeftBy (ConsoleStep clock_tells) (IsAt clock_tells ended moments_after faults (faults_of members after)) (begun (session_of state) moments)
@@ -100,7 +98,7 @@ module _ {X : Type 0} {F : X → Type 0} (members : (v : (x : X) × F x) → Gho
 
   -- ---- The store
 
-  module _ (tells clock_tells : Type 0) (keeper returned : DynBox X Global F) (at : Listening) (clock : ClockRun) (old new : DoorView) (status : ℕ) where
+  module _ (tells clock_tells : Type 0) (keeper returned : K) (at : Listening) (clock : ClockRun) (old new : DoorView) (status : ℕ) where
     pub serves_none : ServesNone members tells keeper returned old new status → clock.after ≡ clock.before
         → ServesStore members tells clock_tells keeper returned at clock old new status
     serves_none p unasked = record {
@@ -109,7 +107,7 @@ module _ {X : Type 0} {F : X → Type 0} (members : (v : (x : X) × F x) → Gho
         fault = λ four. inr (p.honest.fault four);
         steady = λ other. p.same_turns;
         keeper_fault = p.honest.keeper_fault;
-        same_box = p.honest.same_box;
+        told = p.honest.told;
       };
       runs = inr (p, unasked);
       unread = λ told which. p.only_writes told;
@@ -122,19 +120,19 @@ module _ {X : Type 0} {F : X → Type 0} (members : (v : (x : X) × F x) → Gho
         none_complete none (inr (inr (inl six))) = inr (inr six)
         none_complete none (inr (inr (inr seven))) = absurd (none.keeper (p.honest.keeper_fault seven))
 
-    pub serves_opened : (tables : DeskTables) (begins : DynBox X Global F)
+    pub serves_opened : (tables : DeskTables) (begins : K)
         → (Tells members keeper → Tells members begins → KeepsDesk (kept_items members keeper) tables)
-        → IsSound tables → faults_of members begins ≡ faults_of members keeper → IsSameBox keeper begins
+        → IsSound tables → faults_of members begins ≡ faults_of members keeper → (Tells members begins → Tells members keeper)
         → ServesConnections members tells clock_tells tables (faults_of members begins) returned at clock old new status
-        → (Tells members returned → Tells members begins) → IsSameBox begins returned
+        → (Tells members returned → Tells members begins)
         → ServesStore members tells clock_tells keeper returned at clock old new status
-    serves_opened tables begins read sound same_count box run told same_box = record {
+    serves_opened tables begins read sound same_count back run told = record {
       honest = record {
         statuses = statuses_by run.failed status run.status_is;
         fault = λ four. inl (fault_by run.failed new.failed status old.turns new.turns run.status_is run.calls.stop four);
         steady = steady_by run.failed status old.turns new.turns run.status_is run.calls.turns;
         keeper_fault = λ seven. at_most_four run.failed status run.status_is (inr (inr seven));
-        same_box = record { object = same_box.object ∙ box.object; pointer = same_box.pointer ∙ box.pointer };
+        told = λ now. back (told now);
       };
       runs = inl (record {
         tables = tables;

@@ -1,9 +1,7 @@
 -- What a run of `import` over a store and a folder does.
 use Rattle.std.specs.Prelude.{◌≡◌, ℕ, ◌⊎◌, [], ◌∷◌}
-use Rattle.std.specs.declared.dyn_box.DynBox.{DynBox}
-use Rattle.std.specs.declared.alloc.Global.{Global}
 use Rattle.mud_world.specs.declared.keeper.Keeper.{Ghosts}
-use Rattle.mud_world.specs.Boxed.{faults_of, Tells, kept_items}
+use Rattle.mud_world.specs.Kept.{faults_of, Tells, kept_items}
 use Rattle.mud_world.specs.Files.{names_of}
 use Rattle.run_common.specs.Ends.{AreSteady, IsStoppedByDoorOrSpool}
 use Rattle.mud_world.specs.View.{OutsideView}
@@ -15,7 +13,7 @@ use Rattle.run_desk.specs.Honest.{RunsHonestly}
 use Rattle.run_desk.specs.Store.{IsRefused, IsUnopened, KeepsTables}
 use Rattle.mud_cli.specs.Import.Order.{in_order}
 use Rattle.mud_cli.specs.Import.Runs.{Scene, ImportsPart, ImportsAll}
-use Rattle.run_common.specs.Status.{IsOneOf, each_status}
+use Rattle.run_common.specs.Status.{IsNot, IsOneOf, each_status}
 use Rattle.run_common.specs.declared.status.Status.TheVariants.{Done, Refused, DoorFailed, NoMemory, BadItem, KeeperFailed}
 
 -- ---- A desk that is opened
@@ -31,9 +29,9 @@ pub record ImportsFolder (tables : DeskTables) (session : Session) (faults fault
   pub all : IsOneOf (Done ∷ Refused ∷ KeeperFailed ∷ []) status → ImportsAll old.spool.files (in_order (names_of old.spool.files)) (scene_in (opened tables) old faults) (scene_in session new faults_after) status
   pub part : IsOneOf (DoorFailed ∷ NoMemory ∷ []) status → ImportsPart old.spool.files (in_order (names_of old.spool.files)) (scene_in (opened tables) old faults) (scene_in session new faults_after)
 
-module _ {X : Type 0} {F : X → Type 0} (members : (v : (x : X) × F x) → Ghosts (F v.0)) where
+module _ {K : Type 0} (members : Ghosts K) where
   -- A desk is opened with the tables that were kept, and the tables of its session in the end are kept.
-  pub record OpensAndImports (keeper returned : DynBox X Global F) (old new : OutsideView) (status : ℕ) : Type 0 where
+  pub record OpensAndImports (keeper returned : K) (old new : OutsideView) (status : ℕ) : Type 0 where
     pub tables : DeskTables
     pub session : Session
     pub sound : IsSound tables
@@ -41,14 +39,15 @@ module _ {X : Type 0} {F : X → Type 0} (members : (v : (x : X) × F x) → Gho
     pub imports : ImportsFolder tables session (faults_of members keeper) (faults_of members returned) old new status
     pub are_kept : kept_items members returned ≡ items_of session.desk
 
-  -- No desk is opened: the tables stay, the folder isn't listed, and the clock isn't asked.
-  pub record ImportsNone (keeper returned : DynBox X Global F) (old new : OutsideView) (status : ℕ) : Type 0 where
+  -- No desk is opened: the tables stay, the folder isn't listed, and the clock isn't asked. The keeper fails with 7 alone.
+  pub record ImportsNone (keeper returned : K) (old new : OutsideView) (status : ℕ) : Type 0 where
     pub refused : IsRefused members keeper returned old.door.state new.door.state status
     pub same_spool : new.spool ≡ old.spool
     pub same_moments : new.moments ≡ old.moments
+    pub keeper_steady : IsNot KeeperFailed status → faults_of members returned ≡ faults_of members keeper
 
   -- A run of `import`. `tells` says that the door, the spool and the clock tell.
-  pub record ImportsStore (tells : Type 0) (keeper returned : DynBox X Global F) (old new : OutsideView) (status : ℕ) : Type 0 where
+  pub record ImportsStore (tells : Type 0) (keeper returned : K) (old new : OutsideView) (status : ℕ) : Type 0 where
     -- A write or a call of the spool that fails ends the run. Where it ends with 0, 3 or 6, the keeper didn't fail.
     pub honest : RunsHonestly members each_status (IsStoppedByDoorOrSpool old.door new.door old.spool new.spool) (AreSteady old.door new.door old.spool new.spool) keeper returned status
     pub keeper_steady : IsOneOf (Done ∷ Refused ∷ BadItem ∷ []) status → faults_of members returned ≡ faults_of members keeper
@@ -57,6 +56,6 @@ module _ {X : Type 0} {F : X → Type 0} (members : (v : (x : X) × F x) → Gho
     -- Whatever the status, the items of sound tables are kept, but where no desk was opened.
     pub kept : KeepsTables members returned ⊎ IsUnopened members keeper returned status
     pub same_files : tells → new.spool.files ≡ old.spool.files
-    -- The box that comes back is the one that was handed in. The door isn't read, no port is bound, and the connection isn't left.
+    -- The door isn't read, no port is bound, and the connection isn't left.
     pub same_turns : new.door.turns ≡ old.door.turns
     pub same_reads : new.door.reads ≡ old.door.reads

@@ -1,9 +1,7 @@
 -- What a run of `replay` over a store and a connection does.
 use Rattle.std.specs.Prelude.{◌≡◌, ℕ, ◌⊎◌, [], ◌∷◌}
-use Rattle.std.specs.declared.dyn_box.DynBox.{DynBox}
-use Rattle.std.specs.declared.alloc.Global.{Global}
 use Rattle.mud_world.specs.declared.keeper.Keeper.{Ghosts}
-use Rattle.mud_world.specs.Boxed.{faults_of}
+use Rattle.mud_world.specs.Kept.{faults_of}
 use Rattle.mud_world.specs.View.{DoorView}
 use Rattle.desk_model.specs.DeskTables.{DeskTables}
 use Rattle.desk_model.specs.Sessions.{opened}
@@ -31,10 +29,10 @@ status_at Spent = 3
 status_at ReadFailed = 4
 status_at WriteFailed = 4
 
-module _ {X : Type 0} {F : X → Type 0} (members : (v : (x : X) × F x) → Ghosts (F v.0)) where
+module _ {K : Type 0} (members : Ghosts K) where
   -- The connection is served by a desk that begins with these tables, whose keeper had failed so often. Each request gives its own
   -- moment: there is no clock. `tells` says that the door tells its connections.
-  pub record ReplaysConnection (tells : Type 0) (tables : DeskTables) (faults : ℕ) (returned : DynBox X Global F) (old new : DoorView) (status : ℕ) : Type 0 where
+  pub record ReplaysConnection (tells : Type 0) (tables : DeskTables) (faults : ℕ) (returned : K) (old new : DoorView) (status : ℕ) : Type 0 where
     pub end : ConnectionEnd
     pub status_is : status ≡ status_at end
     -- Whatever the door, some requests lead from the tables to what is left. Where it tells, they are those of the octets that were
@@ -45,13 +43,13 @@ module _ {X : Type 0} {F : X → Type 0} (members : (v : (x : X) × F x) → Gho
     pub calls : ReadsAndWrites (is_read_failed end) (is_write_failed end) old new
 
   -- A desk is opened and the connection served by it.
-  pub record OpensAndReplays (tells : Type 0) (keeper returned : DynBox X Global F) (old new : DoorView) (status : ℕ) : Type 0 where
+  pub record OpensAndReplays (tells : Type 0) (keeper returned : K) (old new : DoorView) (status : ℕ) : Type 0 where
     pub tables : DeskTables
     pub opens : OpensWith members tables keeper returned
     pub replays : ReplaysConnection tells tables (faults_of members keeper) returned old new status
 
   -- A run of `replay`. `tells` says that the door tells its connections.
-  pub record ReplaysStore (tells : Type 0) (keeper returned : DynBox X Global F) (old new : DoorView) (status : ℕ) : Type 0 where
+  pub record ReplaysStore (tells : Type 0) (keeper returned : K) (old new : DoorView) (status : ℕ) : Type 0 where
     -- A read or a write that fails ends the run. With 7 the keeper failed in the opening.
     pub honest : RunsHonestly members each_status (IsStopped old new) (IsSteady old new) keeper returned status
     -- The connection is served, or the store is refused, or memory is wanted before the connection is read.
@@ -60,5 +58,5 @@ module _ {X : Type 0} {F : X → Type 0} (members : (v : (x : X) × F x) → Gho
     -- Where no call of the door or the keeper failed, the connection is served to its end, but for want of memory and for an item
     -- that is no record.
     pub complete : NoneFailed (faults_of members keeper) (faults_of members returned) old new → IsOneOf (Done ∷ Refused ∷ NoMemory ∷ BadItem ∷ []) status
-    -- The box that comes back is the one that was handed in. No port is bound, and the connection isn't left.
+    -- No port is bound, and the connection isn't left.
     pub same_turns : new.turns ≡ old.turns

@@ -1,9 +1,7 @@
 -- What a run of `serve` over a store and the connections of a port does.
 use Rattle.std.specs.Prelude.{if◌then◌else◌, ◌≡◌, ℕ, ◌⊎◌, Bool, IsTrue, List, [], ◌∷◌}
-use Rattle.std.specs.declared.dyn_box.DynBox.{DynBox}
-use Rattle.std.specs.declared.alloc.Global.{Global}
 use Rattle.mud_world.specs.declared.keeper.Keeper.{Ghosts}
-use Rattle.mud_world.specs.Boxed.{faults_of}
+use Rattle.mud_world.specs.Kept.{faults_of}
 use Rattle.mud_world.specs.Door.{bound_anew}
 use Rattle.mud_world.specs.View.{DoorView}
 use Rattle.desk_model.specs.DeskTables.{DeskTables}
@@ -47,10 +45,10 @@ pub record IsUnbound (keeps : ConsoleState → Type 0) (failed : Bool) (s : Cons
   pub same_reads : new.reads ≡ old.reads
   pub same_writes : new.writes ≡ old.writes
 
-module _ {X : Type 0} {F : X → Type 0} (members : (v : (x : X) × F x) → Ghosts (F v.0)) where
+module _ {K : Type 0} (members : Ghosts K) where
   -- Connections are served by a desk that begins with these tables, whose keeper had failed so often. Each whole request asks the
   -- clock once. `tells` says that the door tells its connections, and `clock_tells` that the clock tells its moments.
-  pub record ServesConnections (tells clock_tells : Type 0) (tables : DeskTables) (faults : ℕ) (returned : DynBox X Global F) (at : Listening) (clock : ClockRun) (old new : DoorView) (status : ℕ) : Type 0 where
+  pub record ServesConnections (tells clock_tells : Type 0) (tables : DeskTables) (faults : ℕ) (returned : K) (at : Listening) (clock : ClockRun) (old new : DoorView) (status : ℕ) : Type 0 where
     -- whether the door failed to bind the port or to go on to a connection
     pub failed : Bool
     pub status_is : status ≡ (if failed then 4 else 0)
@@ -64,13 +62,13 @@ module _ {X : Type 0} {F : X → Type 0} (members : (v : (x : X) × F x) → Gho
         (bound_view at.port old) new
 
   -- A desk is opened and the connections served by it.
-  pub record OpensAndServes (tells clock_tells : Type 0) (keeper returned : DynBox X Global F) (at : Listening) (clock : ClockRun) (old new : DoorView) (status : ℕ) : Type 0 where
+  pub record OpensAndServes (tells clock_tells : Type 0) (keeper returned : K) (at : Listening) (clock : ClockRun) (old new : DoorView) (status : ℕ) : Type 0 where
     pub tables : DeskTables
     pub opens : OpensWith members tables keeper returned
     pub serves : ServesConnections tells clock_tells tables (faults_of members keeper) returned at clock old new status
 
   -- A run of `serve`. `tells` says that the door tells its connections, and `clock_tells` that the clock tells its moments.
-  pub record ServesStore (tells clock_tells : Type 0) (keeper returned : DynBox X Global F) (at : Listening) (clock : ClockRun) (old new : DoorView) (status : ℕ) : Type 0 where
+  pub record ServesStore (tells clock_tells : Type 0) (keeper returned : K) (at : Listening) (clock : ClockRun) (old new : DoorView) (status : ℕ) : Type 0 where
     -- Only a failure to bind the port, to go on to a connection, or to write the line of an item that is no record ends the run. With 7 the
     -- keeper failed in the opening.
     pub honest : RunsHonestly members each_but_refused (IsStoppedListening old new) (new.turns ≡ old.turns) keeper returned status
@@ -81,4 +79,3 @@ module _ {X : Type 0} {F : X → Type 0} (members : (v : (x : X) × F x) → Gho
     -- Where no call of the door or the keeper failed, all connections are served, but for want of memory and for an item that is no
     -- record.
     pub complete : NoneFailed (faults_of members keeper) (faults_of members returned) old new → IsOneOf (Done ∷ NoMemory ∷ BadItem ∷ []) status
-    -- The box that comes back is the one that was handed in.

@@ -1,16 +1,14 @@
 -- What `replay` and `serve` make of their store: what a served desk leaves, and what is done where no connection is served.
 use Rattle.std.specs.Prelude.{◌≡◌, ℕ, ◌+◌, List}
-use Rattle.std.specs.declared.dyn_box.DynBox.{DynBox}
-use Rattle.std.specs.declared.alloc.Global.{Global}
 use Rattle.mud_world.specs.declared.keeper.Keeper.{Ghosts}
-use Rattle.mud_world.specs.Boxed.{faults_of, Tells, kept_items}
+use Rattle.mud_world.specs.Kept.{faults_of, Tells, kept_items}
 use Rattle.mud_world.specs.Causes.{Rose}
 use Rattle.mud_world.specs.Door.{DoorState, put_out}
 use Rattle.run_common.specs.Ends.{IsStoppedWriting}
 use Rattle.mud_world.specs.View.{DoorView}
 use Rattle.desk_model.specs.DeskTables.{DeskTables, IsSound}
 use Rattle.desk_model.specs.Keeping.{KeepsDesk}
-use Rattle.desk_model.specs.Boxed.{IsKept}
+use Rattle.desk_model.specs.Kept.{IsKept}
 use Rattle.run_desk.specs.Honest.{RunsHonestly}
 use Rattle.run_desk.specs.Refused.{RefusesStore, each_refusal}
 use Rattle.run_desk.specs.Store.{LeavesStore}
@@ -29,16 +27,16 @@ pub record OnlyWrites (old new : DoorState) : Type 0 where
   pub text : List ℕ
   pub wrote : new ≡ put_out text old
 
-module _ {X : Type 0} {F : X → Type 0} (members : (v : (x : X) × F x) → Ghosts (F v.0)) where
+module _ {K : Type 0} (members : Ghosts K) where
   -- a desk is opened with the tables that were kept
-  pub record OpensWith (tables : DeskTables) (keeper returned : DynBox X Global F) : Type 0 where
+  pub record OpensWith (tables : DeskTables) (keeper returned : K) : Type 0 where
     pub sound : IsSound tables
     pub were_kept : Tells members keeper → Tells members returned → KeepsDesk (kept_items members keeper) tables
 
-  -- What requests leave, whose state is this: the box keeps the tables of the session, the clock will give its moments, and the
+  -- What requests leave, whose state is this: the keeper keeps the tables of the session, the clock will give its moments, and the
   -- keeper's count rose with the requests that were answered with 503 and with no other. At most as many were as it rose: none
   -- where it didn't rise.
-  pub record LeavesDesk (clock_tells : Type 0) (faults : ℕ) (returned : DynBox X Global F) (moments : List ℕ) (s : ConsoleState) : Type 0 where
+  pub record LeavesDesk (clock_tells : Type 0) (faults : ℕ) (returned : K) (moments : List ℕ) (s : ConsoleState) : Type 0 where
     pub kept : IsKept members returned s.session.desk
     pub clock : clock_tells → moments ≡ s.moments
     pub paid : CountsOf s.unavailable faults (faults_of members returned)
@@ -47,7 +45,7 @@ module _ {X : Type 0} {F : X → Type 0} (members : (v : (x : X) × F x) → Gho
 
   -- No connection is served: no desk is opened, or there is no memory to serve with. `tells` says that the door tells its
   -- connections.
-  pub record ServesNone (tells : Type 0) (keeper returned : DynBox X Global F) (old new : DoorView) (status : ℕ) : Type 0 where
+  pub record ServesNone (tells : Type 0) (keeper returned : K) (old new : DoorView) (status : ℕ) : Type 0 where
     -- It is 4 only where a write failed in this call, as the last call of the door, and 7 only where the keeper did. Nothing else
     -- failed.
     pub honest : RunsHonestly members each_refusal (IsStoppedWriting old new) (new.writes ≡ old.writes) keeper returned status

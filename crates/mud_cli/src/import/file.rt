@@ -1,10 +1,10 @@
 //! One name of a folder.
 ghost use Rattle.std.specs.Prelude.{◌≡◌, ◌==◌, ◌⊎◌, false, [], ◌∷◌, Ok, Err, None, IfOk, OnOk, OnErr, IsTrue};
-ghost use Rattle.mud_world.specs.Boxed.{faults_of};
+ghost use Rattle.mud_world.specs.Kept.{faults_of};
 ghost use Rattle.mud_world.specs.Causes.{Counts, StopsAtFailure};
 ghost use Rattle.mud_world.specs.Clock.{later_moments};
 ghost use Rattle.mud_world.specs.Door.{put_out};
-ghost use Rattle.desk_model.specs.Boxed.{IsKept};
+ghost use Rattle.desk_model.specs.Kept.{IsKept};
 ghost use Rattle.mud_desk.specs.DeskState.{session_of, tables_of};
 ghost use Rattle.mud_desk.specs.Stays.{StaysKept};
 ghost use Rattle.run_common.specs.Ends.{IsStoppedByDoorOrSpool, IsStoppedWriting};
@@ -25,7 +25,7 @@ use base_rows::Steps;
 use desk_model::{Command, Reply};
 use mud_base::{Bytes, Memory};
 use mud_desk::Desk;
-use mud_world::{Clock, Door, Spool, say};
+use mud_world::{Clock, Door, Keeper, Spool, say};
 use run_common::{Status, Stop};
 use std::alloc::Global;
 use std::sync::ledger::Ledger;
@@ -44,24 +44,24 @@ fn unless_memory(reply: Reply) -> Result<Reply, Memory>
 /// The reply to the import of the file of the name; none for a name of another form, of which no
 /// file is read and the clock isn't asked.
 #[tactic(auto, unfolding(crate::specs::Import::Scenes::standing))]
-fn reply_to<L: Ledger, P: Spool, C: Clock>(
+fn reply_to<K: Keeper, L: Ledger, P: Spool, C: Clock>(
     alloc: Global,
-    desk: &mut Desk,
+    desk: &mut Desk<K>,
     spool: &mut P,
     clock: &mut C,
     name: &[u8],
     steps: &mut Steps<L>,
 ) -> Result<Option<Reply>, Stop>
-    requires kept { IsKept Keeper-dyn desk.old.keeper (tables_of desk.old.state) }
-    ensures stays { StaysKept Keeper-dyn desk.old desk.new }
+    requires kept { IsKept ⟦<K as Keeper>⟧ desk.old.keeper (tables_of desk.old.state) }
+    ensures stays { StaysKept ⟦<K as Keeper>⟧ desk.old desk.new }
     // No packet is counted for the connections.
     ensures history { desk.new.state.flows.history ≡ desk.old.state.flows.history }
     ensures leads { P.tells → C.tells → IfOk result (λ reply. ImportsEntry (P.view spool.old).files
         (standing desk.old.state (C.moments clock.old)) name.now reply (standing desk.new.state (C.moments clock.new))) }
-    ensures keeper { IfOk result (λ reply. Counts (has_keeper_failed reply) (faults_of Keeper-dyn desk.old.keeper) (faults_of Keeper-dyn desk.new.keeper)) }
+    ensures keeper { IfOk result (λ reply. Counts (has_keeper_failed reply) (faults_of ⟦<K as Keeper>⟧ desk.old.keeper) (faults_of ⟦<K as Keeper>⟧ desk.new.keeper)) }
     ensures statuses { IfOk result (λ reply. IsOneOf (Done ∷ Refused ∷ KeeperFailed ∷ []) (entries.status_with reply)) }
     ensures still { OnErr result (session_of desk.new.state ≡ session_of desk.old.state) }
-    ensures steady { OnErr result (faults_of Keeper-dyn desk.new.keeper ≡ faults_of Keeper-dyn desk.old.keeper) }
+    ensures steady { OnErr result (faults_of ⟦<K as Keeper>⟧ desk.new.keeper ≡ faults_of ⟦<K as Keeper>⟧ desk.old.keeper) }
     ensures clock { C.tells → OnErr result ((C.moments clock.new ≡ C.moments clock.old) ⊎ (C.moments clock.new ≡ later_moments (C.moments clock.old))) }
     ensures same { P.tells → (P.view spool.new).files ≡ (P.view spool.old).files }
     ensures cause { Counts (has_failed result) (P.view spool.old).faults (P.view spool.new).faults }
@@ -124,27 +124,27 @@ fn status_with(reply: &Option<Reply>) -> Status
 
 /// Imports the file of the name, or skips the name, and writes its line. The answer is the status
 /// of an import of this name alone.
-pub(crate) fn import_file<L: Ledger, D: Door, P: Spool, C: Clock>(
+pub(crate) fn import_file<K: Keeper, L: Ledger, D: Door, P: Spool, C: Clock>(
     alloc: Global,
-    desk: &mut Desk,
+    desk: &mut Desk<K>,
     door: &mut D,
     spool: &mut P,
     clock: &mut C,
     name: &[u8],
     steps: &mut Steps<L>,
 ) -> Result<Status, Stop>
-    requires kept { IsKept Keeper-dyn desk.old.keeper (tables_of desk.old.state) }
-    ensures stays { StaysKept Keeper-dyn desk.old desk.new }
+    requires kept { IsKept ⟦<K as Keeper>⟧ desk.old.keeper (tables_of desk.old.state) }
+    ensures stays { StaysKept ⟦<K as Keeper>⟧ desk.old desk.new }
     // No packet is counted for the connections.
     ensures history { desk.new.state.flows.history ≡ desk.old.state.flows.history }
     ensures all { D.tells → P.tells → C.tells → IfOk result (λ status. ImportsAll (P.view spool.old).files (name.now ∷ [])
-        (scene desk.old.state (C.moments clock.old) (D.view door.old).state (faults_of Keeper-dyn desk.old.keeper))
-        (scene desk.new.state (C.moments clock.new) (D.view door.new).state (faults_of Keeper-dyn desk.new.keeper)) (status_number status)) }
+        (scene desk.old.state (C.moments clock.old) (D.view door.old).state (faults_of ⟦<K as Keeper>⟧ desk.old.keeper))
+        (scene desk.new.state (C.moments clock.new) (D.view door.new).state (faults_of ⟦<K as Keeper>⟧ desk.new.keeper)) (status_number status)) }
     ensures part { D.tells → P.tells → C.tells → OnErr result (ImportsPart (P.view spool.old).files (name.now ∷ [])
-        (scene desk.old.state (C.moments clock.old) (D.view door.old).state (faults_of Keeper-dyn desk.old.keeper))
-        (scene desk.new.state (C.moments clock.new) (D.view door.new).state (faults_of Keeper-dyn desk.new.keeper))) }
+        (scene desk.old.state (C.moments clock.old) (D.view door.old).state (faults_of ⟦<K as Keeper>⟧ desk.old.keeper))
+        (scene desk.new.state (C.moments clock.new) (D.view door.new).state (faults_of ⟦<K as Keeper>⟧ desk.new.keeper))) }
     ensures statuses { IfOk result (λ status. IsOneOf (Done ∷ Refused ∷ KeeperFailed ∷ []) (status_number status)) }
-    ensures keeper { IfOk result (λ status. Counts (status_number status == status_number KeeperFailed) (faults_of Keeper-dyn desk.old.keeper) (faults_of Keeper-dyn desk.new.keeper)) }
+    ensures keeper { IfOk result (λ status. Counts (status_number status == status_number KeeperFailed) (faults_of ⟦<K as Keeper>⟧ desk.old.keeper) (faults_of ⟦<K as Keeper>⟧ desk.new.keeper)) }
     ensures failed { result ≡ Err Stop.Failed → IsStoppedByDoorOrSpool
         (D.view door.old) (D.view door.new) (P.view spool.old) (P.view spool.new) }
     ensures steady { has_failed result ≡ false →

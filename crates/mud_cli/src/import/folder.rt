@@ -1,10 +1,10 @@
 //! All names of a folder.
 ghost use Rattle.std.specs.Prelude.{◌≡◌, ◌==◌, ℕ, ◌<◌, max, false, [], ◌∷◌, Err, IfOk, OnErr};
 ghost use Rattle.base_rows.specs.Ledgers.{IsBlankOf};
-ghost use Rattle.mud_world.specs.Boxed.{faults_of};
+ghost use Rattle.mud_world.specs.Kept.{faults_of};
 ghost use Rattle.mud_world.specs.Causes.{Counts, Rose};
 ghost use Rattle.mud_world.specs.Files.{names_of};
-ghost use Rattle.desk_model.specs.Boxed.{IsKept};
+ghost use Rattle.desk_model.specs.Kept.{IsKept};
 ghost use Rattle.mud_desk.specs.DeskState.{tables_of};
 ghost use Rattle.mud_desk.specs.Stays.{StaysKept};
 ghost use Rattle.run_common.specs.Ends.{AreSteady, IsStoppedByDoorOrSpool};
@@ -20,7 +20,7 @@ use crate::import::names::names_in_order;
 use base_rows::Steps;
 use mud_base::Bytes;
 use mud_desk::Desk;
-use mud_world::{Clock, Door, Spool};
+use mud_world::{Clock, Door, Keeper, Spool};
 use run_common::{Status, Stop};
 use std::alloc::Global;
 use std::marker::Brand;
@@ -35,27 +35,27 @@ fn worse(a: Status, b: Status) -> Status
 
 /// Imports the files of the names, one after the other: the line of each is written before the next
 /// one is looked at.
-fn import_names<L: Ledger, D: Door, P: Spool, C: Clock>(
+fn import_names<K: Keeper, L: Ledger, D: Door, P: Spool, C: Clock>(
     alloc: Global,
-    desk: &mut Desk,
+    desk: &mut Desk<K>,
     door: &mut D,
     spool: &mut P,
     clock: &mut C,
     names: &[Bytes],
     steps: &mut Steps<L>,
 ) -> Result<Status, Stop>
-    requires kept { IsKept Keeper-dyn desk.old.keeper (tables_of desk.old.state) }
-    ensures stays { StaysKept Keeper-dyn desk.old desk.new }
+    requires kept { IsKept ⟦<K as Keeper>⟧ desk.old.keeper (tables_of desk.old.state) }
+    ensures stays { StaysKept ⟦<K as Keeper>⟧ desk.old desk.new }
     // No packet is counted for the connections.
     ensures history { desk.new.state.flows.history ≡ desk.old.state.flows.history }
     ensures all { D.tells → P.tells → C.tells → IfOk result (λ status. ImportsAll (P.view spool.old).files names.now
-        (scene desk.old.state (C.moments clock.old) (D.view door.old).state (faults_of Keeper-dyn desk.old.keeper))
-        (scene desk.new.state (C.moments clock.new) (D.view door.new).state (faults_of Keeper-dyn desk.new.keeper)) (status_number status)) }
+        (scene desk.old.state (C.moments clock.old) (D.view door.old).state (faults_of ⟦<K as Keeper>⟧ desk.old.keeper))
+        (scene desk.new.state (C.moments clock.new) (D.view door.new).state (faults_of ⟦<K as Keeper>⟧ desk.new.keeper)) (status_number status)) }
     ensures part { D.tells → P.tells → C.tells → OnErr result (ImportsPart (P.view spool.old).files names.now
-        (scene desk.old.state (C.moments clock.old) (D.view door.old).state (faults_of Keeper-dyn desk.old.keeper))
-        (scene desk.new.state (C.moments clock.new) (D.view door.new).state (faults_of Keeper-dyn desk.new.keeper))) }
+        (scene desk.old.state (C.moments clock.old) (D.view door.old).state (faults_of ⟦<K as Keeper>⟧ desk.old.keeper))
+        (scene desk.new.state (C.moments clock.new) (D.view door.new).state (faults_of ⟦<K as Keeper>⟧ desk.new.keeper))) }
     ensures statuses { IfOk result (λ status. IsOneOf (Done ∷ Refused ∷ KeeperFailed ∷ []) (status_number status)) }
-    ensures keeper { IfOk result (λ status. Counts (status_number status == status_number KeeperFailed) (faults_of Keeper-dyn desk.old.keeper) (faults_of Keeper-dyn desk.new.keeper)) }
+    ensures keeper { IfOk result (λ status. Counts (status_number status == status_number KeeperFailed) (faults_of ⟦<K as Keeper>⟧ desk.old.keeper) (faults_of ⟦<K as Keeper>⟧ desk.new.keeper)) }
     ensures failed { result ≡ Err Stop.Failed → IsStoppedByDoorOrSpool
         (D.view door.old) (D.view door.new) (P.view spool.old) (P.view spool.new) }
     ensures steady { has_failed result ≡ false → AreSteady (D.view door.old) (D.view door.new) (P.view spool.old) (P.view spool.new) }
@@ -72,27 +72,27 @@ fn import_names<L: Ledger, D: Door, P: Spool, C: Clock>(
 }
 
 /// Imports the files of the folder, whose steps are counted on this blank.
-fn import_listed<L: Ledger, D: Door, P: Spool, C: Clock>(
+fn import_listed<K: Keeper, L: Ledger, D: Door, P: Spool, C: Clock>(
     alloc: Global,
-    desk: &mut Desk,
+    desk: &mut Desk<K>,
     door: &mut D,
     spool: &mut P,
     clock: &mut C,
     blank: Blank,
 ) -> Result<Status, Stop>
-    requires kept { IsKept Keeper-dyn desk.old.keeper (tables_of desk.old.state) }
+    requires kept { IsKept ⟦<K as Keeper>⟧ desk.old.keeper (tables_of desk.old.state) }
     requires blank { IsBlankOf L.name L.parts blank }
-    ensures stays { StaysKept Keeper-dyn desk.old desk.new }
+    ensures stays { StaysKept ⟦<K as Keeper>⟧ desk.old desk.new }
     // No packet is counted for the connections.
     ensures history { desk.new.state.flows.history ≡ desk.old.state.flows.history }
     ensures all { D.tells → P.tells → C.tells → IfOk result (λ status. ImportsAll (P.view spool.old).files (in_order (names_of (P.view spool.old).files))
-        (scene desk.old.state (C.moments clock.old) (D.view door.old).state (faults_of Keeper-dyn desk.old.keeper))
-        (scene desk.new.state (C.moments clock.new) (D.view door.new).state (faults_of Keeper-dyn desk.new.keeper)) (status_number status)) }
+        (scene desk.old.state (C.moments clock.old) (D.view door.old).state (faults_of ⟦<K as Keeper>⟧ desk.old.keeper))
+        (scene desk.new.state (C.moments clock.new) (D.view door.new).state (faults_of ⟦<K as Keeper>⟧ desk.new.keeper)) (status_number status)) }
     ensures part { D.tells → P.tells → C.tells → OnErr result (ImportsPart (P.view spool.old).files (in_order (names_of (P.view spool.old).files))
-        (scene desk.old.state (C.moments clock.old) (D.view door.old).state (faults_of Keeper-dyn desk.old.keeper))
-        (scene desk.new.state (C.moments clock.new) (D.view door.new).state (faults_of Keeper-dyn desk.new.keeper))) }
+        (scene desk.old.state (C.moments clock.old) (D.view door.old).state (faults_of ⟦<K as Keeper>⟧ desk.old.keeper))
+        (scene desk.new.state (C.moments clock.new) (D.view door.new).state (faults_of ⟦<K as Keeper>⟧ desk.new.keeper))) }
     ensures statuses { IfOk result (λ status. IsOneOf (Done ∷ Refused ∷ KeeperFailed ∷ []) (status_number status)) }
-    ensures keeper { IfOk result (λ status. Counts (status_number status == status_number KeeperFailed) (faults_of Keeper-dyn desk.old.keeper) (faults_of Keeper-dyn desk.new.keeper)) }
+    ensures keeper { IfOk result (λ status. Counts (status_number status == status_number KeeperFailed) (faults_of ⟦<K as Keeper>⟧ desk.old.keeper) (faults_of ⟦<K as Keeper>⟧ desk.new.keeper)) }
     ensures failed { result ≡ Err Stop.Failed → IsStoppedByDoorOrSpool
         (D.view door.old) (D.view door.new) (P.view spool.old) (P.view spool.new) }
     ensures steady { has_failed result ≡ false → AreSteady (D.view door.old) (D.view door.new) (P.view spool.old) (P.view spool.new) }
@@ -117,41 +117,41 @@ fn import_listed<L: Ledger, D: Door, P: Spool, C: Clock>(
 /// | 4 | the spool or the door failed: the import ends there |
 /// | 5 | want of memory: the import ends there, and no line says so |
 /// | 7 | the keeper failed at a file; the files behind it are imported |
-pub(crate) fn import_files<D: Door, P: Spool, C: Clock>(
+pub(crate) fn import_files<K: Keeper, D: Door, P: Spool, C: Clock>(
     alloc: Global,
-    desk: &mut Desk,
+    desk: &mut Desk<K>,
     door: &mut D,
     spool: &mut P,
     clock: &mut C,
 ) -> Status
-    requires kept { IsKept Keeper-dyn desk.old.keeper (tables_of desk.old.state) }
+    requires kept { IsKept ⟦<K as Keeper>⟧ desk.old.keeper (tables_of desk.old.state) }
     ensures statuses { IsOneOf (Done ∷ Refused ∷ DoorFailed ∷ NoMemory ∷ KeeperFailed ∷ []) (status_number result) }
     // With 0, 3 and 7 every name has its line, and the desk's lists are those after all commands.
     ensures done { D.tells → P.tells → C.tells → IsOneOf (Done ∷ Refused ∷ KeeperFailed ∷ []) (status_number result) →
         ImportsAll (P.view spool.old).files (in_order (names_of (P.view spool.old).files))
-        (scene desk.old.state (C.moments clock.old) (D.view door.old).state (faults_of Keeper-dyn desk.old.keeper))
-        (scene desk.new.state (C.moments clock.new) (D.view door.new).state (faults_of Keeper-dyn desk.new.keeper)) (status_number result) }
+        (scene desk.old.state (C.moments clock.old) (D.view door.old).state (faults_of ⟦<K as Keeper>⟧ desk.old.keeper))
+        (scene desk.new.state (C.moments clock.new) (D.view door.new).state (faults_of ⟦<K as Keeper>⟧ desk.new.keeper)) (status_number result) }
     // With 4 and 5 a first part of that was done.
     ensures part { D.tells → P.tells → C.tells → IsOneOf (DoorFailed ∷ NoMemory ∷ []) (status_number result) →
         ImportsPart (P.view spool.old).files (in_order (names_of (P.view spool.old).files))
-        (scene desk.old.state (C.moments clock.old) (D.view door.old).state (faults_of Keeper-dyn desk.old.keeper))
-        (scene desk.new.state (C.moments clock.new) (D.view door.new).state (faults_of Keeper-dyn desk.new.keeper)) }
+        (scene desk.old.state (C.moments clock.old) (D.view door.old).state (faults_of ⟦<K as Keeper>⟧ desk.old.keeper))
+        (scene desk.new.state (C.moments clock.new) (D.view door.new).state (faults_of ⟦<K as Keeper>⟧ desk.new.keeper)) }
     // 4 comes exactly where a write of the door, or a call of the spool, failed in this call: one failed, and it isn't called again,
     ensures fault { Is DoorFailed (status_number result) → IsStoppedByDoorOrSpool
         (D.view door.old) (D.view door.new) (P.view spool.old) (P.view spool.new) }
     ensures steady { IsNot DoorFailed (status_number result) → AreSteady (D.view door.old) (D.view door.new) (P.view spool.old) (P.view spool.new) }
     // and 7 only where the keeper did.
-    ensures keeper { Is KeeperFailed (status_number result) → Rose (faults_of Keeper-dyn desk.old.keeper) (faults_of Keeper-dyn desk.new.keeper) }
+    ensures keeper { Is KeeperFailed (status_number result) → Rose (faults_of ⟦<K as Keeper>⟧ desk.old.keeper) (faults_of ⟦<K as Keeper>⟧ desk.new.keeper) }
     ensures keeper_steady { IsOneOf (Done ∷ Refused ∷ []) (status_number result) →
-        faults_of Keeper-dyn desk.new.keeper ≡ faults_of Keeper-dyn desk.old.keeper }
-    ensures stays { StaysKept Keeper-dyn desk.old desk.new }
+        faults_of ⟦<K as Keeper>⟧ desk.new.keeper ≡ faults_of ⟦<K as Keeper>⟧ desk.old.keeper }
+    ensures stays { StaysKept ⟦<K as Keeper>⟧ desk.old desk.new }
     // No packet is counted for the connections.
     ensures history { desk.new.state.flows.history ≡ desk.old.state.flows.history }
     ensures same { P.tells → (P.view spool.new).files ≡ (P.view spool.old).files }
     ensures turns { (D.view door.new).turns ≡ (D.view door.old).turns }
     ensures reads { (D.view door.new).reads ≡ (D.view door.old).reads }
 {
-    match import_listed::<Brand, D, P, C>(alloc, desk, door, spool, clock, Blank::new(1)) {
+    match import_listed::<K, Brand, D, P, C>(alloc, desk, door, spool, clock, Blank::new(1)) {
         Ok(status) => status,
         Err(stop) => stop.status(),
     }

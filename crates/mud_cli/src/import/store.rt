@@ -15,18 +15,18 @@ use run_desk::refuse_store;
 use std::alloc::Global;
 
 /// Opens a desk over the keeper, and then imports the usage files of the folder into it. Where the
-/// store can't be opened, the folder isn't listed. The box is handed back. Nothing was taken before,
+/// store can't be opened, the folder isn't listed. The keeper is handed back. Nothing was taken before,
 /// as [`Desk::open`] wants it: [`Loaded::new`].
-pub(crate) fn import_store<D: Door, P: Spool, C: Clock>(
+pub(crate) fn import_store<K: Keeper, D: Door, P: Spool, C: Clock>(
     alloc: Global,
-    keeper: Box<dyn Keeper>,
+    keeper: K,
     nothing: Loaded,
     door: &mut D,
     spool: &mut P,
     clock: &mut C,
-) -> (Status, Box<dyn Keeper>)
+) -> (Status, K)
     requires { kept_of nothing ≡ none_kept }
-    ensures { ImportsStore Keeper-dyn (D.tells × (P.tells × C.tells)) keeper result.1
+    ensures { ImportsStore ⟦<K as Keeper>⟧ (D.tells × (P.tells × C.tells)) keeper result.1
         (outside (D.view door.old)
         (P.view spool.old) (C.moments clock.old))
         (outside (D.view door.new)

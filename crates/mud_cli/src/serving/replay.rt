@@ -1,13 +1,13 @@
 //! The command `replay`: the requests of one connection, each at the moment that it gives itself.
 ghost use Rattle.std.specs.Prelude.{◌≡◌};
-ghost use Rattle.mud_world.specs.Boxed.{faults_of, Tells};
+ghost use Rattle.mud_world.specs.Kept.{faults_of, Tells};
 ghost use Rattle.run_common.specs.Status.{Is, status_number};
 ghost use Rattle.run_common.specs.declared.status.Status.TheVariants.{KeeperFailed};
 ghost use Rattle.mud_desk.specs.Items.Loaded.{kept_of};
 ghost use Rattle.desk_model.specs.DeskTables.{DeskTables};
 ghost use Rattle.desk_model.specs.Items.{none_kept};
 ghost use Rattle.desk_model.specs.Sessions as sessions;
-ghost use Rattle.desk_model.specs.Boxed.{IsKept, IsSameBox};
+ghost use Rattle.desk_model.specs.Kept.{IsKept};
 ghost use Rattle.mud_desk.specs.DeskState.{session_of, tables_of};
 ghost use Rattle.mud_cli.specs.Serving.Replay.{ReplaysConnection, ReplaysStore, status_at};
 
@@ -21,7 +21,6 @@ use mud_world::{Door, Keeper};
 use run_common::Status;
 use run_desk::refuse_store;
 use std::alloc::Global;
-use std::marker::PhantomData;
 
 /// The status of a run whose connection ended so.
 fn status_of(end: ConnectionEnd) -> Status
@@ -35,20 +34,19 @@ fn status_of(end: ConnectionEnd) -> Status
 }
 
 /// Serves the connection by the desk, and hands its keeper back.
-fn replay_desk<D: Door>(
+fn replay_desk<K: Keeper, D: Door>(
     alloc: Global,
-    desk: Desk,
+    desk: Desk<K>,
     room: Room,
     door: &mut D,
-) -> (Status, Box<dyn Keeper>)
-    requires { IsKept Keeper-dyn desk.keeper (tables_of desk.state) }
+) -> (Status, K)
+    requires { IsKept ⟦<K as Keeper>⟧ desk.keeper (tables_of desk.state) }
     ensures replays { (tables : DeskTables) → session_of desk.state ≡ sessions.opened tables
-        → ReplaysConnection Keeper-dyn D.tells tables (faults_of Keeper-dyn desk.keeper) result.1
+        → ReplaysConnection ⟦<K as Keeper>⟧ D.tells tables (faults_of ⟦<K as Keeper>⟧ desk.keeper) result.1
         (D.view door.old)
         (D.view door.new)
         (status_number result.0) }
-    ensures told { Tells Keeper-dyn result.1 → Tells Keeper-dyn desk.keeper }
-    ensures same_box { IsSameBox desk.keeper result.1 }
+    ensures told { Tells ⟦<K as Keeper>⟧ result.1 → Tells ⟦<K as Keeper>⟧ desk.keeper }
 {
     let Room {
         mut requests,
@@ -60,7 +58,6 @@ fn replay_desk<D: Door>(
         desk,
         answer,
         clock: &mut clock,
-        keeper: PhantomData,
     };
     let end = serve_connection(&mut console, &mut requests, door, MomentFrom::Header);
     let Console {
@@ -68,14 +65,13 @@ fn replay_desk<D: Door>(
         desk,
         answer: _,
         clock: _,
-        keeper: _,
     } = console;
     (status_of(end), desk.close())
 }
 
 /// Opens a desk over the keeper, and then answers by it the requests of the connection at which the
 /// door stands, each at the moment that its `Mud-Moment` header gives. Where the store can't be
-/// opened, or there is no memory to serve with, the connection isn't read. The box is handed back.
+/// opened, or there is no memory to serve with, the connection isn't read. The keeper is handed back.
 /// Nothing was taken before, as [`Desk::open`] wants it: [`Loaded::new`].
 ///
 /// | Status | It comes |
@@ -86,14 +82,14 @@ fn replay_desk<D: Door>(
 /// | 5 | want of memory, before the connection was read |
 /// | 6 | an item of the store is no record |
 /// | 7 | the keeper failed in the opening |
-pub(crate) fn replay_store<D: Door>(
+pub(crate) fn replay_store<K: Keeper, D: Door>(
     alloc: Global,
-    keeper: Box<dyn Keeper>,
+    keeper: K,
     nothing: Loaded,
     door: &mut D,
-) -> (Status, Box<dyn Keeper>)
+) -> (Status, K)
     requires { kept_of nothing ≡ none_kept }
-    ensures replayed { ReplaysStore Keeper-dyn D.tells keeper result.1
+    ensures replayed { ReplaysStore ⟦<K as Keeper>⟧ D.tells keeper result.1
         (D.view door.old)
         (D.view door.new)
         (status_number result.0) }

@@ -1,14 +1,14 @@
 //! The command `serve`: the requests of the connections that come to a port, at the moments of a
 //! clock.
 ghost use Rattle.std.specs.Prelude.{◌≡◌, is_err, if◌then◌else◌};
-ghost use Rattle.mud_world.specs.Boxed.{faults_of, Tells};
+ghost use Rattle.mud_world.specs.Kept.{faults_of, Tells};
 ghost use Rattle.run_common.specs.Status.{Is, status_number};
 ghost use Rattle.run_common.specs.declared.status.Status.TheVariants.{KeeperFailed};
 ghost use Rattle.mud_desk.specs.Items.Loaded.{kept_of};
 ghost use Rattle.desk_model.specs.DeskTables.{DeskTables};
 ghost use Rattle.desk_model.specs.Items.{none_kept};
 ghost use Rattle.desk_model.specs.Sessions as sessions;
-ghost use Rattle.desk_model.specs.Boxed.{IsKept, IsSameBox};
+ghost use Rattle.desk_model.specs.Kept.{IsKept};
 ghost use Rattle.mud_desk.specs.DeskState.{session_of, tables_of};
 ghost use Rattle.mud_cli.specs.Serving.Serve.{ServesConnections, ServesStore, listening, clock_run};
 
@@ -21,7 +21,6 @@ use mud_world::{Clock, Door, Failed, Keeper};
 use run_common::Status;
 use run_desk::refuse_store;
 use std::alloc::Global;
-use std::marker::PhantomData;
 
 /// The status of a run whose calls of the door for its port and its connections came to this.
 fn status_of(served: Result<(), Failed>) -> Status
@@ -34,24 +33,23 @@ fn status_of(served: Result<(), Failed>) -> Status
 }
 
 /// Serves the connections by the desk, and hands its keeper back.
-fn serve_desk<D: Door, C: Clock>(
+fn serve_desk<K: Keeper, D: Door, C: Clock>(
     alloc: Global,
-    desk: Desk,
+    desk: Desk<K>,
     room: Room,
     door: &mut D,
     clock: &mut C,
     port: u16,
     count: u32,
-) -> (Status, Box<dyn Keeper>)
-    requires { IsKept Keeper-dyn desk.keeper (tables_of desk.state) }
+) -> (Status, K)
+    requires { IsKept ⟦<K as Keeper>⟧ desk.keeper (tables_of desk.state) }
     ensures serves { (tables : DeskTables) → session_of desk.state ≡ sessions.opened tables
-        → ServesConnections Keeper-dyn D.tells C.tells tables (faults_of Keeper-dyn desk.keeper) result.1
+        → ServesConnections ⟦<K as Keeper>⟧ D.tells C.tells tables (faults_of ⟦<K as Keeper>⟧ desk.keeper) result.1
         (listening port count) (clock_run (C.moments clock.old) (C.moments clock.new))
         (D.view door.old)
         (D.view door.new)
         (status_number result.0) }
-    ensures told { Tells Keeper-dyn result.1 → Tells Keeper-dyn desk.keeper }
-    ensures same_box { IsSameBox desk.keeper result.1 }
+    ensures told { Tells ⟦<K as Keeper>⟧ result.1 → Tells ⟦<K as Keeper>⟧ desk.keeper }
 {
     let Ok(()) = door.bind(port) else {
         drop(room);
@@ -66,7 +64,6 @@ fn serve_desk<D: Door, C: Clock>(
         desk,
         answer,
         clock,
-        keeper: PhantomData,
     };
     let served = serve_connections(&mut console, &mut requests, door, MomentFrom::Clock, count);
     let Console {
@@ -74,7 +71,6 @@ fn serve_desk<D: Door, C: Clock>(
         desk,
         answer: _,
         clock: lent,
-        keeper: _,
     } = console;
     // The loan of the clock ends with this look at it, and the caller's clock is what it is now.
     let _now = &*lent;
@@ -84,7 +80,7 @@ fn serve_desk<D: Door, C: Clock>(
 /// Opens a desk over the keeper, binds the port, and answers by the desk the requests of the
 /// connections that come, one connection after the other, `count` of them or all where there are
 /// fewer, in one session throughout. Each whole request is taken at the clock's next moment. Where
-/// the store can't be opened, or there is no memory to serve with, no port is bound. The box is
+/// the store can't be opened, or there is no memory to serve with, no port is bound. The keeper is
 /// handed back. Nothing was taken before, as [`Desk::open`] wants it: [`Loaded::new`].
 ///
 /// | Status | It comes |
@@ -94,17 +90,17 @@ fn serve_desk<D: Door, C: Clock>(
 /// | 5 | want of memory, before the port was bound |
 /// | 6 | an item of the store is no record |
 /// | 7 | the keeper failed in the opening |
-pub(crate) fn serve_store<D: Door, C: Clock>(
+pub(crate) fn serve_store<K: Keeper, D: Door, C: Clock>(
     alloc: Global,
-    keeper: Box<dyn Keeper>,
+    keeper: K,
     nothing: Loaded,
     door: &mut D,
     clock: &mut C,
     port: u16,
     count: u32,
-) -> (Status, Box<dyn Keeper>)
+) -> (Status, K)
     requires { kept_of nothing ≡ none_kept }
-    ensures served { ServesStore Keeper-dyn D.tells C.tells keeper result.1
+    ensures served { ServesStore ⟦<K as Keeper>⟧ D.tells C.tells keeper result.1
         (listening port count) (clock_run (C.moments clock.old) (C.moments clock.new))
         (D.view door.old)
         (D.view door.new)

@@ -8,45 +8,44 @@ ghost use Rattle.table_model.specs.ThingItems.{in_second};
 ghost use Rattle.desk_model.specs.DeskTables.{IsSound};
 ghost use Rattle.desk_model.specs.Items.{none_kept, items_of, tables_in};
 ghost use Rattle.desk_model.specs.Keeping.{KeepsDesk};
+ghost use Rattle.mud_world.specs.Kept.{Rests};
 ghost use Rattle.mud_desk.specs.Items.Loaded.{kept_of, loaded_desk};
 ghost use Rattle.mud_desk.specs.Items.Opening.{has_keeper_failed, HasOctets, IsFaultOf, IsOfCall, IsPartlyAnew, Leaves, PutsAnew};
 
 use crate::items::fault::OpenFault;
 use crate::items::loaded::{Loaded, take_into};
 use mud_base::Listed;
-use mud_world::{Item, KeepFault, Keeper, Put, keep};
+use mud_world::{Item, KeepFault, Keeper, Put};
 use std::alloc::Global;
 
-/// Opens the keeper in the box and reads its items, in the keeper's order: the lists of the books and
+/// Opens the keeper and reads its items, in the keeper's order: the lists of the books and
 /// the stamp. Where an item is no record, the first such item is answered, and nothing is written.
 /// Else each Thing of version 1 is put anew in version 2, and everything else, the stamp too, stays as
 /// it is. After a failure the items are as they were or, once that has begun, those of the same desk,
 /// of which some Things are put anew. Nothing was taken before.
-///
-/// Without that condition a caller in another crate would have to reckon with another keeper in the
-/// box.
-pub fn open_items(
+pub fn open_items<K: Keeper>(
     alloc: Global,
-    keeper: &mut Box<dyn Keeper>,
+    keeper: &mut K,
     nothing: Loaded,
 ) -> Result<Loaded, OpenFault>
     requires { kept_of nothing ≡ none_kept }
-    ensures opened { OnOk result (opened keeper.new ≡ true) }
-    ensures still { IsTrue (opened keeper.old) → IsTrue (opened keeper.new) }
+    ensures opened { OnOk result (K.opened keeper.new ≡ true) }
+    ensures still { IsTrue (K.opened keeper.old) → IsTrue (K.opened keeper.new) }
+    ensures told { K.tells keeper.new → K.tells keeper.old }
     // What was read is the desk that the keeper's items kept before, it is sound, and is kept now.
-    ensures read { tells keeper.old → tells keeper.new
-        → IfOk result (λ loaded. KeepsDesk (items keeper.old) (loaded_desk loaded)) }
+    ensures read { K.tells keeper.old → K.tells keeper.new
+        → IfOk result (λ loaded. KeepsDesk (K.items keeper.old) (loaded_desk loaded)) }
     ensures sound { IfOk result (λ loaded. IsSound (loaded_desk loaded)) }
-    ensures kept { tells keeper.new
-        → IfOk result (λ loaded. items keeper.new ≡ items_of (loaded_desk loaded)) }
+    ensures kept { K.tells keeper.new
+        → IfOk result (λ loaded. K.items keeper.new ≡ items_of (loaded_desk loaded)) }
+    // What a crash leaves then, the next opening finds.
+    ensures rests { K.tells keeper.new → OnOk result (Rests ⟦<K as Keeper>⟧ keeper.new) }
     // An item is named where it is the first that is no record, and else the desk isn't opened for a
     // failure of the keeper or for want of memory.
-    ensures bad { tells keeper.new → IfErr result (IsFaultOf (items keeper.new)) }
-    ensures left { tells keeper.old → tells keeper.new
-        → IfErr result (Leaves (items keeper.old) (items keeper.new)) }
-    ensures cause { Counts (has_keeper_failed result) (faults keeper.old) (faults keeper.new) }
-    ensures object { keeper.new.vtable ≡ keeper.old.vtable }
-    ensures pointer { keeper.new.ptr ≡ keeper.old.ptr }
+    ensures bad { K.tells keeper.new → IfErr result (IsFaultOf (K.items keeper.new)) }
+    ensures left { K.tells keeper.old → K.tells keeper.new
+        → IfErr result (Leaves (K.items keeper.old) (K.items keeper.new)) }
+    ensures cause { Counts (has_keeper_failed result) (K.faults keeper.old) (K.faults keeper.new) }
 {
     let items = opened_items(keeper, alloc)?;
     let loaded = read_items(nothing, items.as_slice())?;
@@ -54,17 +53,16 @@ pub fn open_items(
     Ok(loaded)
 }
 
-/// The items of the keeper in the box.
-fn opened_items(keeper: &mut Box<dyn Keeper>, alloc: Global) -> Result<Listed<Item>, KeepFault>
-    ensures items { tells keeper.new → IfOk result (λ list. list ≡ items keeper.new) }
-    ensures ordered { tells keeper.new → IsOrdered (items keeper.new) }
-    ensures same { tells keeper.old → tells keeper.new → items keeper.new ≡ items keeper.old }
-    ensures told { tells keeper.new → OnErr result (tells keeper.old) }
-    ensures opened { OnOk result (opened keeper.new ≡ true) }
-    ensures still { OnErr result (opened keeper.new ≡ opened keeper.old) }
-    ensures cause { Counts (has_failed result) (faults keeper.old) (faults keeper.new) }
-    ensures object { keeper.new.vtable ≡ keeper.old.vtable }
-    ensures pointer { keeper.new.ptr ≡ keeper.old.ptr }
+/// The items of the keeper.
+fn opened_items<K: Keeper>(keeper: &mut K, alloc: Global) -> Result<Listed<Item>, KeepFault>
+    ensures items { K.tells keeper.new → IfOk result (λ list. list ≡ K.items keeper.new) }
+    ensures ordered { K.tells keeper.new → IsOrdered (K.items keeper.new) }
+    ensures same { K.tells keeper.new → K.items keeper.new ≡ K.items keeper.old }
+    ensures told { K.tells keeper.new → K.tells keeper.old }
+    ensures rests { K.tells keeper.new → OnOk result (Rests ⟦<K as Keeper>⟧ keeper.new) }
+    ensures opened { OnOk result (K.opened keeper.new ≡ true) }
+    ensures still { OnErr result (K.opened keeper.new ≡ K.opened keeper.old) }
+    ensures cause { Counts (has_failed result) (K.faults keeper.old) (K.faults keeper.new) }
 {
     keeper.open(alloc)
 }
@@ -106,23 +104,23 @@ fn octets_fit(octets: &[u8])
 
 /// Puts each Thing anew whose item isn't that of version 2. The keeper's items are these, and what was
 /// taken of them.
-fn put_things_anew(
-    keeper: &mut Box<dyn Keeper>,
+fn put_things_anew<K: Keeper>(
+    keeper: &mut K,
     list: &[Item],
     loaded: &Loaded,
 ) -> Result<(), OpenFault>
-    requires opened { IsTrue (opened keeper.old) }
-    requires items { tells keeper.old → items keeper.old ≡ list.now }
-    requires ordered { tells keeper.old → IsOrdered (items keeper.old) }
+    requires opened { IsTrue (K.opened keeper.old) }
+    requires items { K.tells keeper.old → K.items keeper.old ≡ list.now }
+    requires ordered { K.tells keeper.old → IsOrdered (K.items keeper.old) }
+    requires rests { K.tells keeper.old → Rests ⟦<K as Keeper>⟧ keeper.old }
     requires read { tables_in list.now ≡ Ok (loaded_desk loaded.now) }
-    ensures told { tells keeper.new → tells keeper.old }
-    ensures ok { tells keeper.new → OnOk result (items keeper.new ≡ items_of (loaded_desk loaded.now)) }
-    ensures err { tells keeper.new → OnErr result (IsPartlyAnew list.now (items keeper.new)) }
+    ensures told { K.tells keeper.new → K.tells keeper.old }
+    ensures ok { K.tells keeper.new → OnOk result (K.items keeper.new ≡ items_of (loaded_desk loaded.now)) }
+    ensures err { K.tells keeper.new → OnErr result (IsPartlyAnew list.now (K.items keeper.new)) }
+    ensures rests { K.tells keeper.new → OnOk result (Rests ⟦<K as Keeper>⟧ keeper.new) }
     ensures call { IfErr result IsOfCall }
-    ensures opened { opened keeper.new ≡ opened keeper.old }
-    ensures cause { Counts (has_keeper_failed result) (faults keeper.old) (faults keeper.new) }
-    ensures object { keeper.new.vtable ≡ keeper.old.vtable }
-    ensures pointer { keeper.new.ptr ≡ keeper.old.ptr }
+    ensures opened { K.opened keeper.new ≡ K.opened keeper.old }
+    ensures cause { Counts (has_keeper_failed result) (K.faults keeper.old) (K.faults keeper.new) }
 {
     bodies_fit(list);
     for index in 0..loaded.things.things().len() {
@@ -133,21 +131,20 @@ fn put_things_anew(
 }
 
 /// Puts the item of a Thing anew, where it isn't that of version 2 already.
-fn put_anew(keeper: &mut Box<dyn Keeper>, item: &Item, anew: Item) -> Result<(), KeepFault>
-    requires opened { IsTrue (opened keeper.old) }
+fn put_anew<K: Keeper>(keeper: &mut K, item: &Item, anew: Item) -> Result<(), KeepFault>
+    requires opened { IsTrue (K.opened keeper.old) }
     requires anew { anew ≡ in_second item.now }
     requires octets { HasOctets item.now }
-    ensures told { tells keeper.new → tells keeper.old }
-    ensures ordered { tells keeper.new → IsOrdered (items keeper.old) → IsOrdered (items keeper.new) }
-    ensures ok { tells keeper.new → OnOk result (PutsAnew item.now (items keeper.old) (items keeper.new)) }
-    ensures err { tells keeper.new → OnErr result (items keeper.new ≡ items keeper.old) }
-    ensures opened { opened keeper.new ≡ opened keeper.old }
-    ensures cause { Counts (has_failed result) (faults keeper.old) (faults keeper.new) }
-    ensures object { keeper.new.vtable ≡ keeper.old.vtable }
-    ensures pointer { keeper.new.ptr ≡ keeper.old.ptr }
+    ensures told { K.tells keeper.new → K.tells keeper.old }
+    ensures ordered { K.tells keeper.new → IsOrdered (K.items keeper.old) → IsOrdered (K.items keeper.new) }
+    ensures ok { K.tells keeper.new → OnOk result (PutsAnew item.now (K.items keeper.old) (K.items keeper.new)) }
+    ensures rests { K.tells keeper.new → OnOk result (Rests ⟦<K as Keeper>⟧ keeper.old → Rests ⟦<K as Keeper>⟧ keeper.new) }
+    ensures err { K.tells keeper.new → OnErr result (K.items keeper.new ≡ K.items keeper.old) }
+    ensures opened { K.opened keeper.new ≡ K.opened keeper.old }
+    ensures cause { Counts (has_failed result) (K.faults keeper.old) (K.faults keeper.new) }
 {
     if anew.body.octets() == item.body.octets() {
         return Ok(());
     }
-    keep(keeper, &[Put::Set(anew)])
+    keeper.apply(&[Put::Set(anew)])
 }

@@ -122,6 +122,7 @@ module _ (s : Session) (first : DoorState) (f : ℕ) (after : Session) (now : Do
       let later : List Packet = (to_come new t.left).all in
       let end = (to_come new t.left).fault in
       let rest : List Packet = stop.rest ++ later in
+      let tail : List ℕ = tail_of (packets_of stop.last ++ rest) end in
       let all : (packets_of p.entries ++ q.packet ∷ []) ++ later ≡ packets_of p.entries ++ (packets_of stop.last ++ rest) =
       append_assoc (packets_of p.entries) (q.packet ∷ []) later
       ∙ ap (λ (here : List Packet). packets_of p.entries ++ (here ++ later)) (ap (λ (one : Packet). one ∷ []) same ∙ sym stop.packets_are)
@@ -137,9 +138,9 @@ module _ (s : Session) (first : DoorState) (f : ℕ) (after : Session) (now : Do
         reached = after;
         run = p.run;
         stopped = stop.stopped;
-        wrote = part_of_done (record { text = lines_of (p.entries ++ stop.last) ++ tail_of rest end; status = status_with (keeper_count (p.entries ++ stop.last)) (status_at end) })
-            (packets_of p.entries ++ q.packet ∷ []) (lines_of p.entries) (lines_of stop.last ++ tail_of rest end) new first t lines' q.done
-            (ap (λ (text : List ℕ). text ++ tail_of rest end) (lines_append p.entries stop.last) ∙ append_assoc (lines_of p.entries) (lines_of stop.last) (tail_of rest end));
+        wrote = part_of_done (record { text = lines_of (p.entries ++ stop.last) ++ tail; status = status_with (keeper_count (p.entries ++ stop.last)) (status_at end) })
+            (packets_of p.entries ++ q.packet ∷ []) (lines_of p.entries) (lines_of stop.last ++ tail) new first t lines' q.done
+            (ap (λ (text : List ℕ). text ++ tail) (lines_append p.entries stop.last) ∙ append_assoc (lines_of p.entries) (lines_of stop.last) tail);
         paid = omega (arith, p.paid, stop.paid, count_append p.entries stop.last);
       }
 

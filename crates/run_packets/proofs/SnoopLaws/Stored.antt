@@ -1,20 +1,17 @@
 -- What a run of `snoop` promises where a desk is opened, and where none is.
 use Rattle.std.proofs.Common.{◌≡◌, ◌≢◌, ℕ, ◌⊎◌, inl, inr, sym, ap₂, subst, ◌∙◌, arith}
-use Rattle.std.specs.declared.dyn_box.DynBox.{DynBox}
-use Rattle.std.specs.declared.alloc.Global.{Global}
 use Rattle.mud_world.specs.declared.keeper.Keeper.{Ghosts}
-use Rattle.mud_world.specs.Boxed.{faults_of, Tells, kept_items}
+use Rattle.mud_world.specs.Kept.{faults_of, Tells, kept_items}
 use Rattle.mud_world.specs.Causes.{EndsAtFailure, Rose}
 use Rattle.mud_world.specs.View.{DoorView}
 use Rattle.desk_model.specs.DeskTables.{IsSound}
 use Rattle.desk_model.specs.Keeping.{KeepsDesk}
 use Rattle.desk_model.specs.Sessions.{Session, opened}
-use Rattle.desk_model.specs.Boxed.{IsSameBox}
 use Rattle.mud_desk.specs.DeskState.{session_of, tables_of}
 use Rattle.mud_desk.specs.declared.desk.Desk.{Desk}
 use Rattle.mud_desk.specs.Stays.{StaysKept}
 use Rattle.run_desk.proofs.Refusals.{RunsRefused, is_refused, reads_honestly}
-use Rattle.run_desk.proofs.Stores.{not_seven}
+use Rattle.run_desk.proofs.Stores.{is_kept_or, not_seven}
 use Rattle.run_packets.specs.Snoop.Runs.{Scene, scene, SnoopsAll, SnoopsPart, SnoopsTaken}
 use Rattle.run_packets.specs.Snoop.Store.{SnoopsStore}
 
@@ -37,10 +34,10 @@ not_six status is (inr (inr six)) = absurd (grind arith)
 
 -- ---- A desk that was opened
 
-module _ {X : Type 0} {F : X → Type 0} (members : (v : (x : X) × F x) → Ghosts (F v.0)) (keeper : DynBox X Global F) (tells : Type 0) (old new : DoorView) (status : ℕ) where
-  pub snooped_run : (desk ended : Desk X F)
+module _ {K : Type 0} (members : Ghosts K) (keeper : K) (tells : Type 0) (old new : DoorView) (status : ℕ) where
+  pub snooped_run : (desk ended : Desk K)
       → (Tells members keeper → Tells members desk.keeper → KeepsDesk (kept_items members keeper) (tables_of desk.state))
-      → IsSound (tables_of desk.state) → session_of desk.state ≡ opened (tables_of desk.state) → faults_of members desk.keeper ≡ faults_of members keeper → IsSameBox keeper desk.keeper
+      → IsSound (tables_of desk.state) → session_of desk.state ≡ opened (tables_of desk.state) → faults_of members desk.keeper ≡ faults_of members keeper → (Tells members desk.keeper → Tells members keeper)
       → StaysKept members desk ended → IsSound (tables_of ended.state)
       → IsOfSnoop status
       → (status ≡ 4 → EndsAtFailure new.failed old.reads new.reads old.writes new.writes)
@@ -51,19 +48,19 @@ module _ {X : Type 0} {F : X → Type 0} (members : (v : (x : X) × F x) → Gho
       → (tells → (status ≡ 4) ⊎ (status ≡ 5) → SnoopsPart (scene (session_of desk.state) old.state (faults_of members desk.keeper)) (scene (session_of ended.state) new.state (faults_of members ended.keeper)))
       → (tells → new.reads ≢ old.reads → SnoopsTaken (scene (session_of desk.state) old.state (faults_of members desk.keeper)) (scene (session_of ended.state) new.state (faults_of members ended.keeper)))
       → new.turns ≡ old.turns
-      → (returned : DynBox X Global F) → returned ≡ ended.keeper → SnoopsStore members tells keeper returned old new status
+      → (returned : K) → returned ≡ ended.keeper → SnoopsStore members tells keeper returned old new status
   unfolding session_of
-  snooped_run desk ended read sound begins same_count same_box stays sound_after is fault steady failed unfailed all part taken turns returned same =
+  snooped_run desk ended read sound begins same_count back stays sound_after is fault steady failed unfailed all part taken turns returned same =
       let last = scene (session_of ended.state) new.state (faults_of members ended.keeper) in
       let first : scene (session_of desk.state) old.state (faults_of members desk.keeper) ≡ scene (opened (tables_of desk.state)) old.state (faults_of members keeper) =
       ap₂ (λ (s : Session) (n : ℕ). scene s old.state n) begins same_count in
-      subst (λ (box : DynBox X Global F). SnoopsStore members tells keeper box old new status) (sym same) (record {
+      subst (λ (it : K). SnoopsStore members tells keeper it old new status) (sym same) (record {
         honest = record {
           statuses = of_snoop status is;
           fault = fault;
           steady = steady;
           keeper_fault = λ seven. subst (λ (n : ℕ). Rose n (faults_of members ended.keeper)) same_count (failed seven);
-          same_box = record { object = stays.same_box.object ∙ same_box.object; pointer = stays.same_box.pointer ∙ same_box.pointer };
+          told = λ now. back (stays.told now);
         };
         keeper_steady = λ which. unfailed (not_six status is which) ∙ same_count;
         runs = λ told tell. inl (record {
@@ -95,12 +92,16 @@ module _ {X : Type 0} {F : X → Type 0} (members : (v : (x : X) × F x) → Gho
 
 -- ---- A store that isn't opened
 
-module _ {X : Type 0} {F : X → Type 0} (members : (v : (x : X) × F x) → Ghosts (F v.0)) (keeper after : DynBox X Global F) (tells : Type 0) (old new : DoorView) (status : ℕ) where
+module _ {K : Type 0} (members : Ghosts K) (keeper after : K) (tells : Type 0) (old new : DoorView) (status : ℕ) where
   pub refused_snoop : RunsRefused members tells keeper after old new status → SnoopsStore members tells keeper after old new status
   refused_snoop run = record {
     honest = reads_honestly members keeper after old new status run.honest run.same_reads;
     keeper_steady = λ which. run.leaves.keeper_steady (not_seven status which);
-    runs = λ told tell. inr (is_refused members keeper after tells old new status run told tell);
-    kept = run.leaves.kept;
+    runs = λ told tell. inr (record {
+      refused = is_refused members keeper after tells old new status run told tell;
+      same_reads = run.same_reads;
+      keeper_steady = run.leaves.keeper_steady;
+    });
+    kept = is_kept_or run.leaves.kept;
     same_turns = run.same_turns;
   }

@@ -35,13 +35,13 @@ pub record SnoopsAll (before after : Scene) (status : ℕ) : Type 0 where
   pub wrote : WritesOutput (output_of_entries entries end) before.door after.door status
   pub paid : RoseBy (keeper_count entries) before.faults after.faults
 
--- what is written behind the lines of entries, where these packets are left
+-- what is written behind the lines of entries, where these packets aren't gone through
 abbrev pub tail_of : List Packet → Option CaptureFault → List ℕ
 tail_of [] end = end_line end
 tail_of (packet ∷ packets) end = []
 
--- Some of the packets were gone through, in order from the first on, and of the last one maybe some of the names. Of their lines, and
--- that of the fault behind the last packet, a first part was written.
+-- Some of the packets were gone through, in order from the first on, and of the last one maybe some of the names. Of their lines, and,
+-- where each packet was gone through, that of the fault behind the last one, a first part was written.
 pub record SnoopsPart (before after : Scene) : Type 0 where
   pub said : List Entry
   pub last : List Entry
@@ -51,7 +51,7 @@ pub record SnoopsPart (before after : Scene) : Type 0 where
   pub reached : Session
   pub run : Snoops before.session said reached
   pub stopped : Stops reached last after.session
-  pub wrote : WritesPart (record { text = lines_of (said ++ last) ++ tail_of rest end; status = status_with (keeper_count (said ++ last)) (status_at end) }) before.door after.door
+  pub wrote : WritesPart (record { text = lines_of (said ++ last) ++ tail_of (packets_of last ++ rest) end; status = status_with (keeper_count (said ++ last)) (status_at end) }) before.door after.door
   pub paid : RoseBy (keeper_count (said ++ last)) before.faults after.faults
 
 -- The lines of the packets in the octets that were taken of the connection were all written.

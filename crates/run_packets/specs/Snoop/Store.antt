@@ -1,10 +1,8 @@
 -- What a run of `snoop` over a store and a capture does.
 use Rattle.std.specs.Prelude.{◌≡◌, ◌≢◌, ℕ, ◌⊎◌, List, [], ◌∷◌}
-use Rattle.std.specs.declared.dyn_box.DynBox.{DynBox}
-use Rattle.std.specs.declared.alloc.Global.{Global}
 use Rattle.mud_world.specs.declared.keeper.Keeper.{Ghosts}
 use Rattle.mud_world.specs.declared.item.Item.{Item}
-use Rattle.mud_world.specs.Boxed.{faults_of, Tells, kept_items}
+use Rattle.mud_world.specs.Kept.{faults_of, Tells, kept_items}
 use Rattle.mud_world.specs.Door.{DoorState}
 use Rattle.run_common.specs.Ends.{IsSteady, IsStopped}
 use Rattle.mud_world.specs.View.{DoorView}
@@ -15,7 +13,7 @@ use Rattle.desk_model.specs.Sessions.{Session, opened}
 use Rattle.run_desk.specs.Honest.{RunsHonestly}
 use Rattle.run_desk.specs.Store.{IsRefused, IsUnopened, KeepsTables}
 use Rattle.run_packets.specs.Snoop.Runs.{Scene, scene, SnoopsAll, SnoopsPart, SnoopsTaken}
-use Rattle.run_common.specs.Status.{IsOneOf, each_status}
+use Rattle.run_common.specs.Status.{IsNot, IsOneOf, each_status}
 use Rattle.run_common.specs.declared.status.Status.TheVariants.{Done, Refused, DoorFailed, NoMemory, BadItem, KeeperFailed}
 
 -- ---- A desk that is opened
@@ -35,22 +33,28 @@ pub record SnoopsCapture (tables : DeskTables) (items : List Item) (faults fault
   pub part : IsOneOf (DoorFailed ∷ NoMemory ∷ []) status → LeadsTo (SnoopsPart (scene (opened tables) old.state faults)) items faults_after new.state
   pub taken : new.reads ≢ old.reads → LeadsTo (SnoopsTaken (scene (opened tables) old.state faults)) items faults_after new.state
 
-module _ {X : Type 0} {F : X → Type 0} (members : (v : (x : X) × F x) → Ghosts (F v.0)) where
+module _ {K : Type 0} (members : Ghosts K) where
   -- A desk is opened with the tables that were kept, and what the packets lead to is kept.
-  pub record OpensAndSnoops (keeper returned : DynBox X Global F) (old new : DoorView) (status : ℕ) : Type 0 where
+  pub record OpensAndSnoops (keeper returned : K) (old new : DoorView) (status : ℕ) : Type 0 where
     pub tables : DeskTables
     pub sound : IsSound tables
     pub were_kept : Tells members keeper → KeepsDesk (kept_items members keeper) tables
     pub snoops : SnoopsCapture tables (kept_items members returned) (faults_of members keeper) (faults_of members returned) old new status
 
+  -- No desk is opened: the tables stay, and the capture isn't read. The keeper fails with 7 alone.
+  pub record SnoopsNone (keeper returned : K) (old new : DoorView) (status : ℕ) : Type 0 where
+    pub refused : IsRefused members keeper returned old.state new.state status
+    pub same_reads : new.reads ≡ old.reads
+    pub keeper_steady : IsNot KeeperFailed status → faults_of members returned ≡ faults_of members keeper
+
   -- A run of `snoop`. `tells` says that the door tells its connections.
-  pub record SnoopsStore (tells : Type 0) (keeper returned : DynBox X Global F) (old new : DoorView) (status : ℕ) : Type 0 where
+  pub record SnoopsStore (tells : Type 0) (keeper returned : K) (old new : DoorView) (status : ℕ) : Type 0 where
     -- A read or a write that fails ends the run. Where it ends with 0, 3 or 6, the keeper didn't fail.
     pub honest : RunsHonestly members each_status (IsStopped old new) (IsSteady old new) keeper returned status
     pub keeper_steady : IsOneOf (Done ∷ Refused ∷ BadItem ∷ []) status → faults_of members returned ≡ faults_of members keeper
     -- A desk is opened and learns from the capture, or the store is refused.
-    pub runs : tells → Tells members returned → OpensAndSnoops keeper returned old new status ⊎ IsRefused members keeper returned old.state new.state status
+    pub runs : tells → Tells members returned → OpensAndSnoops keeper returned old new status ⊎ SnoopsNone keeper returned old new status
     -- Whatever the status, the items of sound tables are kept, but where no desk was opened.
     pub kept : KeepsTables members returned ⊎ IsUnopened members keeper returned status
-    -- The box that comes back is the one that was handed in. No port is bound, and the connection isn't left.
+    -- No port is bound, and the connection isn't left.
     pub same_turns : new.turns ≡ old.turns

@@ -1,7 +1,5 @@
 -- What a run of `tally` over a store does.
 use Rattle.std.specs.Prelude.{ℕ, List}
-use Rattle.std.specs.declared.dyn_box.DynBox.{DynBox}
-use Rattle.std.specs.declared.alloc.Global.{Global}
 use Rattle.mud_world.specs.declared.keeper.Keeper.{Ghosts}
 use Rattle.run_captures.specs.Captures.{captured_of}
 use Rattle.run_captures.specs.Capture.{output_behind}
@@ -16,9 +14,9 @@ use Rattle.run_packets.specs.Tally.Tallied.{begun, seen_in, tally_step, tally_te
 abbrev pub output_of_tally : Session → List ℕ → Output
 output_of_tally session octets = output_behind (tally_text (seen_in session (captured_of octets).all)) (captured_of octets).fault
 
-module _ {X : Type 0} {F : X → Type 0} (members : (v : (x : X) × F x) → Ghosts (F v.0)) where
+module _ {K : Type 0} (members : Ghosts K) where
   -- A run of `tally`, in the session that begins with the tables of the store. Where a read failed, the lines of the hours that were
   -- over were written. `tells` says that the door tells its connections.
-  abbrev pub TalliesStore : Type 0 → DynBox X Global F → DynBox X Global F → DoorView → DoorView → ℕ → Type 0
+  abbrev pub TalliesStore : Type 0 → K → K → DoorView → DoorView → ℕ → Type 0
   TalliesStore tells keeper returned old new status =
       ReadsByStore members (λ tables. output_of_tally (opened tables)) tally_step (λ tables. begun (opened tables)) tells keeper returned old new status

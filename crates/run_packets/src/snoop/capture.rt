@@ -1,7 +1,7 @@
 //! A capture, packet by packet.
 ghost use Rattle.std.specs.Prelude.{◌≡◌, ◌≢◌, ◌==◌, [], false, true, ◌∷◌};
 ghost use Rattle.base_rows.specs.Ledgers.{IsBlankOf};
-ghost use Rattle.mud_world.specs.Boxed.{faults_of};
+ghost use Rattle.mud_world.specs.Kept.{faults_of};
 ghost use Rattle.mud_world.specs.Causes.{Rose};
 ghost use Rattle.mud_world.specs.Door.{DoorState};
 ghost use Rattle.read_buffer.specs.Packets.{Packet};
@@ -12,7 +12,7 @@ ghost use Rattle.run_common.specs.Ends.{IsSteady, IsStopped};
 ghost use Rattle.run_common.specs.Output.{WritesOutput, WritesPart};
 ghost use Rattle.run_common.specs.Status.{Is, IsNot, IsOneOf, status_number};
 ghost use Rattle.run_common.specs.declared.status.Status.TheVariants.{Done, Refused, DoorFailed, NoMemory, KeeperFailed};
-ghost use Rattle.desk_model.specs.Boxed.{IsKept};
+ghost use Rattle.desk_model.specs.Kept.{IsKept};
 ghost use Rattle.mud_desk.specs.DeskState.{session_of, tables_of};
 ghost use Rattle.mud_desk.specs.Stays.{StaysKept};
 ghost use Rattle.run_packets.specs.Snoop.Runs.{scene, SnoopsAll, SnoopsPart, SnoopsTaken};
@@ -22,7 +22,7 @@ use crate::snoop::packet::snoop_packet;
 use base_rows::Steps;
 use mud_base::{Bytes, Memory};
 use mud_desk::Desk;
-use mud_world::{Door, ReadFault};
+use mud_world::{Door, Keeper, ReadFault};
 use run_captures::{CaptureFault, CaptureReader, Way, end_capture, go_on};
 use run_common::Status;
 use std::alloc::Global;
@@ -42,35 +42,35 @@ fn with_failure(status: Status, failed: bool) -> Status
 }
 
 /// Judges the packets that are to come, and learns from each.
-fn snoop_packets<L: Ledger, D: Door>(
+fn snoop_packets<K: Keeper, L: Ledger, D: Door>(
     alloc: Global,
-    desk: &mut Desk,
+    desk: &mut Desk<K>,
     door: &mut D,
     reader: &mut CaptureReader,
     lines: &mut Bytes,
     steps: &mut Steps<L>,
 ) -> Status
     requires going { is_broken reader.old ≡ false }
-    requires kept { IsKept Keeper-dyn desk.old.keeper (tables_of desk.old.state) }
+    requires kept { IsKept ⟦<K as Keeper>⟧ desk.old.keeper (tables_of desk.old.state) }
     ensures statuses { IsOneOf (Done ∷ Refused ∷ DoorFailed ∷ NoMemory ∷ KeeperFailed ∷ []) (status_number result) }
     ensures fault { Is DoorFailed (status_number result) → IsStopped (D.view door.old) (D.view door.new) }
     ensures steady { IsNot DoorFailed (status_number result) → IsSteady (D.view door.old) (D.view door.new) }
-    ensures stays { StaysKept Keeper-dyn desk.old desk.new }
+    ensures stays { StaysKept ⟦<K as Keeper>⟧ desk.old desk.new }
     ensures done { (first : DoorState) → D.tells → HasDone [] [] reader.old first (D.view door.old).state lines.old
         → IsOneOf (Done ∷ Refused ∷ KeeperFailed ∷ []) (status_number result)
-        → SnoopsAll (scene (session_of desk.old.state) first (faults_of Keeper-dyn desk.old.keeper))
-        (scene (session_of desk.new.state) (D.view door.new).state (faults_of Keeper-dyn desk.new.keeper)) (status_number result) }
+        → SnoopsAll (scene (session_of desk.old.state) first (faults_of ⟦<K as Keeper>⟧ desk.old.keeper))
+        (scene (session_of desk.new.state) (D.view door.new).state (faults_of ⟦<K as Keeper>⟧ desk.new.keeper)) (status_number result) }
     ensures part { (first : DoorState) → D.tells → HasDone [] [] reader.old first (D.view door.old).state lines.old
         → IsOneOf (DoorFailed ∷ NoMemory ∷ []) (status_number result)
-        → SnoopsPart (scene (session_of desk.old.state) first (faults_of Keeper-dyn desk.old.keeper))
-        (scene (session_of desk.new.state) (D.view door.new).state (faults_of Keeper-dyn desk.new.keeper)) }
+        → SnoopsPart (scene (session_of desk.old.state) first (faults_of ⟦<K as Keeper>⟧ desk.old.keeper))
+        (scene (session_of desk.new.state) (D.view door.new).state (faults_of ⟦<K as Keeper>⟧ desk.new.keeper)) }
     ensures taken { (first : DoorState) → D.tells → HasDone [] [] reader.old first (D.view door.old).state lines.old
         → (D.view door.new).reads ≢ (D.view door.old).reads
-        → SnoopsTaken (scene (session_of desk.old.state) first (faults_of Keeper-dyn desk.old.keeper))
-        (scene (session_of desk.new.state) (D.view door.new).state (faults_of Keeper-dyn desk.new.keeper)) }
-    ensures keeper { Is KeeperFailed (status_number result) → Rose (faults_of Keeper-dyn desk.old.keeper) (faults_of Keeper-dyn desk.new.keeper) }
+        → SnoopsTaken (scene (session_of desk.old.state) first (faults_of ⟦<K as Keeper>⟧ desk.old.keeper))
+        (scene (session_of desk.new.state) (D.view door.new).state (faults_of ⟦<K as Keeper>⟧ desk.new.keeper)) }
+    ensures keeper { Is KeeperFailed (status_number result) → Rose (faults_of ⟦<K as Keeper>⟧ desk.old.keeper) (faults_of ⟦<K as Keeper>⟧ desk.new.keeper) }
     ensures keeper_steady { IsOneOf (Done ∷ Refused ∷ []) (status_number result) →
-        faults_of Keeper-dyn desk.new.keeper ≡ faults_of Keeper-dyn desk.old.keeper }
+        faults_of ⟦<K as Keeper>⟧ desk.new.keeper ≡ faults_of ⟦<K as Keeper>⟧ desk.old.keeper }
     ensures turns { (D.view door.new).turns ≡ (D.view door.old).turns }
 {
     let mut failed = false;
@@ -91,35 +91,35 @@ fn snoop_packets<L: Ledger, D: Door>(
 }
 
 /// Judges the packets that are to come, and learns from each. The steps are counted on this blank.
-fn snoop_counted<L: Ledger, D: Door>(
+fn snoop_counted<K: Keeper, L: Ledger, D: Door>(
     alloc: Global,
-    desk: &mut Desk,
+    desk: &mut Desk<K>,
     door: &mut D,
     reader: &mut CaptureReader,
     blank: Blank,
 ) -> Status
     requires going { is_broken reader.old ≡ false }
     requires blank { IsBlankOf L.name L.parts blank }
-    requires kept { IsKept Keeper-dyn desk.old.keeper (tables_of desk.old.state) }
+    requires kept { IsKept ⟦<K as Keeper>⟧ desk.old.keeper (tables_of desk.old.state) }
     ensures statuses { IsOneOf (Done ∷ Refused ∷ DoorFailed ∷ NoMemory ∷ KeeperFailed ∷ []) (status_number result) }
     ensures fault { Is DoorFailed (status_number result) → IsStopped (D.view door.old) (D.view door.new) }
     ensures steady { IsNot DoorFailed (status_number result) → IsSteady (D.view door.old) (D.view door.new) }
-    ensures stays { StaysKept Keeper-dyn desk.old desk.new }
+    ensures stays { StaysKept ⟦<K as Keeper>⟧ desk.old desk.new }
     ensures done { (first : DoorState) → D.tells → HasDone [] [] reader.old first (D.view door.old).state []
         → IsOneOf (Done ∷ Refused ∷ KeeperFailed ∷ []) (status_number result)
-        → SnoopsAll (scene (session_of desk.old.state) first (faults_of Keeper-dyn desk.old.keeper))
-        (scene (session_of desk.new.state) (D.view door.new).state (faults_of Keeper-dyn desk.new.keeper)) (status_number result) }
+        → SnoopsAll (scene (session_of desk.old.state) first (faults_of ⟦<K as Keeper>⟧ desk.old.keeper))
+        (scene (session_of desk.new.state) (D.view door.new).state (faults_of ⟦<K as Keeper>⟧ desk.new.keeper)) (status_number result) }
     ensures part { (first : DoorState) → D.tells → HasDone [] [] reader.old first (D.view door.old).state []
         → IsOneOf (DoorFailed ∷ NoMemory ∷ []) (status_number result)
-        → SnoopsPart (scene (session_of desk.old.state) first (faults_of Keeper-dyn desk.old.keeper))
-        (scene (session_of desk.new.state) (D.view door.new).state (faults_of Keeper-dyn desk.new.keeper)) }
+        → SnoopsPart (scene (session_of desk.old.state) first (faults_of ⟦<K as Keeper>⟧ desk.old.keeper))
+        (scene (session_of desk.new.state) (D.view door.new).state (faults_of ⟦<K as Keeper>⟧ desk.new.keeper)) }
     ensures taken { (first : DoorState) → D.tells → HasDone [] [] reader.old first (D.view door.old).state []
         → (D.view door.new).reads ≢ (D.view door.old).reads
-        → SnoopsTaken (scene (session_of desk.old.state) first (faults_of Keeper-dyn desk.old.keeper))
-        (scene (session_of desk.new.state) (D.view door.new).state (faults_of Keeper-dyn desk.new.keeper)) }
-    ensures keeper { Is KeeperFailed (status_number result) → Rose (faults_of Keeper-dyn desk.old.keeper) (faults_of Keeper-dyn desk.new.keeper) }
+        → SnoopsTaken (scene (session_of desk.old.state) first (faults_of ⟦<K as Keeper>⟧ desk.old.keeper))
+        (scene (session_of desk.new.state) (D.view door.new).state (faults_of ⟦<K as Keeper>⟧ desk.new.keeper)) }
+    ensures keeper { Is KeeperFailed (status_number result) → Rose (faults_of ⟦<K as Keeper>⟧ desk.old.keeper) (faults_of ⟦<K as Keeper>⟧ desk.new.keeper) }
     ensures keeper_steady { IsOneOf (Done ∷ Refused ∷ []) (status_number result) →
-        faults_of Keeper-dyn desk.new.keeper ≡ faults_of Keeper-dyn desk.old.keeper }
+        faults_of ⟦<K as Keeper>⟧ desk.new.keeper ≡ faults_of ⟦<K as Keeper>⟧ desk.old.keeper }
     ensures turns { (D.view door.new).turns ≡ (D.view door.old).turns }
 {
     let mut lines = Bytes::empty(alloc);
@@ -140,24 +140,28 @@ fn snoop_counted<L: Ledger, D: Door>(
 /// | 4 | a read or a write of the door failed: the run ends there |
 /// | 5 | want of memory: the run ends there, and no line says so |
 /// | 7 | the keeper failed at a name; the capture was read as with 0 or 3 |
-pub(crate) fn snoop_capture<D: Door>(alloc: Global, desk: &mut Desk, door: &mut D) -> Status
-    requires kept { IsKept Keeper-dyn desk.old.keeper (tables_of desk.old.state) }
+pub(crate) fn snoop_capture<K: Keeper, D: Door>(
+    alloc: Global,
+    desk: &mut Desk<K>,
+    door: &mut D,
+) -> Status
+    requires kept { IsKept ⟦<K as Keeper>⟧ desk.old.keeper (tables_of desk.old.state) }
     ensures statuses { IsOneOf (Done ∷ Refused ∷ DoorFailed ∷ NoMemory ∷ KeeperFailed ∷ []) (status_number result) }
     ensures fault { Is DoorFailed (status_number result) → IsStopped (D.view door.old) (D.view door.new) }
     ensures steady { IsNot DoorFailed (status_number result) → IsSteady (D.view door.old) (D.view door.new) }
-    ensures stays { StaysKept Keeper-dyn desk.old desk.new }
+    ensures stays { StaysKept ⟦<K as Keeper>⟧ desk.old desk.new }
     ensures done { D.tells → IsOneOf (Done ∷ Refused ∷ KeeperFailed ∷ []) (status_number result)
-        → SnoopsAll (scene (session_of desk.old.state) (D.view door.old).state (faults_of Keeper-dyn desk.old.keeper))
-        (scene (session_of desk.new.state) (D.view door.new).state (faults_of Keeper-dyn desk.new.keeper)) (status_number result) }
+        → SnoopsAll (scene (session_of desk.old.state) (D.view door.old).state (faults_of ⟦<K as Keeper>⟧ desk.old.keeper))
+        (scene (session_of desk.new.state) (D.view door.new).state (faults_of ⟦<K as Keeper>⟧ desk.new.keeper)) (status_number result) }
     ensures part { D.tells → IsOneOf (DoorFailed ∷ NoMemory ∷ []) (status_number result)
-        → SnoopsPart (scene (session_of desk.old.state) (D.view door.old).state (faults_of Keeper-dyn desk.old.keeper))
-        (scene (session_of desk.new.state) (D.view door.new).state (faults_of Keeper-dyn desk.new.keeper)) }
+        → SnoopsPart (scene (session_of desk.old.state) (D.view door.old).state (faults_of ⟦<K as Keeper>⟧ desk.old.keeper))
+        (scene (session_of desk.new.state) (D.view door.new).state (faults_of ⟦<K as Keeper>⟧ desk.new.keeper)) }
     ensures taken { D.tells → (D.view door.new).reads ≢ (D.view door.old).reads
-        → SnoopsTaken (scene (session_of desk.old.state) (D.view door.old).state (faults_of Keeper-dyn desk.old.keeper))
-        (scene (session_of desk.new.state) (D.view door.new).state (faults_of Keeper-dyn desk.new.keeper)) }
-    ensures keeper { Is KeeperFailed (status_number result) → Rose (faults_of Keeper-dyn desk.old.keeper) (faults_of Keeper-dyn desk.new.keeper) }
+        → SnoopsTaken (scene (session_of desk.old.state) (D.view door.old).state (faults_of ⟦<K as Keeper>⟧ desk.old.keeper))
+        (scene (session_of desk.new.state) (D.view door.new).state (faults_of ⟦<K as Keeper>⟧ desk.new.keeper)) }
+    ensures keeper { Is KeeperFailed (status_number result) → Rose (faults_of ⟦<K as Keeper>⟧ desk.old.keeper) (faults_of ⟦<K as Keeper>⟧ desk.new.keeper) }
     ensures keeper_steady { IsOneOf (Done ∷ Refused ∷ []) (status_number result) →
-        faults_of Keeper-dyn desk.new.keeper ≡ faults_of Keeper-dyn desk.old.keeper }
+        faults_of ⟦<K as Keeper>⟧ desk.new.keeper ≡ faults_of ⟦<K as Keeper>⟧ desk.old.keeper }
     ensures turns { (D.view door.new).turns ≡ (D.view door.old).turns }
 {
     let mut reader = match CaptureReader::begin(alloc, door) {
@@ -165,5 +169,5 @@ pub(crate) fn snoop_capture<D: Door>(alloc: Global, desk: &mut Desk, door: &mut 
         Err(ReadFault::Failed) => return Status::DoorFailed,
         Err(ReadFault::Memory) => return Status::NoMemory,
     };
-    snoop_counted::<Brand, D>(alloc, desk, door, &mut reader, Blank::new(1))
+    snoop_counted::<K, Brand, D>(alloc, desk, door, &mut reader, Blank::new(1))
 }

@@ -1,12 +1,12 @@
 //! The addresses of a DNS message, each observed under the name that was asked for.
 ghost use Rattle.std.specs.Prelude.{◌≡◌, ◌≢◌, ◌||◌, [], ◌∷◌, Ok, Some, IfOk, OnErr};
 ghost use Rattle.std.specs.List.{All};
-ghost use Rattle.mud_world.specs.Boxed.{faults_of};
+ghost use Rattle.mud_world.specs.Kept.{faults_of};
 ghost use Rattle.mud_world.specs.Causes.{Counts};
 ghost use Rattle.desk_model.specs.Sessions.{AllowedReply, is_of_keeper};
 ghost use Rattle.dns_snoop.specs.Messages.{answers_of};
 ghost use Rattle.dns_snoop.specs.Observed.{IsObservable};
-ghost use Rattle.desk_model.specs.Boxed.{IsKept};
+ghost use Rattle.desk_model.specs.Kept.{IsKept};
 ghost use Rattle.mud_desk.specs.DeskState.{session_of, tables_of};
 ghost use Rattle.mud_desk.specs.Stays.{StaysKept};
 ghost use Rattle.run_packets.specs.Snoop.Learnt.{Learns, LearnsFirst, names_of};
@@ -17,6 +17,7 @@ use desk_model::{Command, Reply};
 use dns_snoop::{Answers, DnsFault, read_answers};
 use mud_base::{Addr, Bytes, Memory, Moment};
 use mud_desk::Desk;
+use mud_world::Keeper;
 use std::alloc::Global;
 use std::sync::ledger::Ledger;
 
@@ -47,23 +48,23 @@ pub(crate) fn either(first: bool, second: bool) -> bool
 
 /// Observes an address under a name, for so many seconds, at this moment.
 #[tactic(auto, using(crate::proofs::SnoopLaws::Asked::memory_leaves))]
-fn observe<L: Ledger>(
+fn observe<K: Keeper, L: Ledger>(
     alloc: Global,
-    desk: &mut Desk,
+    desk: &mut Desk<K>,
     name: &[u8],
     row: (Addr, u32),
     now: Moment,
     steps: &mut Steps<L>,
 ) -> Result<Reply, Memory>
-    requires kept { IsKept Keeper-dyn desk.old.keeper (tables_of desk.old.state) }
+    requires kept { IsKept ⟦<K as Keeper>⟧ desk.old.keeper (tables_of desk.old.state) }
     requires asked { IsObservable name.now row }
-    ensures stays { StaysKept Keeper-dyn desk.old desk.new }
+    ensures stays { StaysKept ⟦<K as Keeper>⟧ desk.old desk.new }
     ensures answer { IfOk result (λ reply.
         AllowedReply (session_of desk.old.state) now (Command.Observe name.now row.0 row.1) reply (session_of desk.new.state)) }
     ensures told { IfOk result (λ reply. reply ≢ Reply.Memory) }
     ensures still { OnErr result (session_of desk.new.state ≡ session_of desk.old.state) }
-    ensures cause { IfOk result (λ reply. Counts (is_of_keeper reply) (faults_of Keeper-dyn desk.old.keeper) (faults_of Keeper-dyn desk.new.keeper)) }
-    ensures steady { OnErr result (faults_of Keeper-dyn desk.new.keeper ≡ faults_of Keeper-dyn desk.old.keeper) }
+    ensures cause { IfOk result (λ reply. Counts (is_of_keeper reply) (faults_of ⟦<K as Keeper>⟧ desk.old.keeper) (faults_of ⟦<K as Keeper>⟧ desk.new.keeper)) }
+    ensures steady { OnErr result (faults_of ⟦<K as Keeper>⟧ desk.new.keeper ≡ faults_of ⟦<K as Keeper>⟧ desk.old.keeper) }
 {
     let name = Bytes::new(alloc, name)?;
     unless_memory(desk.command(Command::Observe(name, row.0, row.1), now, steps))
@@ -71,23 +72,23 @@ fn observe<L: Ledger>(
 
 /// Observes an address under a name, at this moment, and adds the line of it. The answer is whether
 /// the keeper failed.
-fn learn_row<L: Ledger>(
+fn learn_row<K: Keeper, L: Ledger>(
     alloc: Global,
-    desk: &mut Desk,
+    desk: &mut Desk<K>,
     lines: &mut Bytes,
     name: &[u8],
     row: (Addr, u32),
     now: Moment,
     steps: &mut Steps<L>,
 ) -> Result<bool, Memory>
-    requires kept { IsKept Keeper-dyn desk.old.keeper (tables_of desk.old.state) }
+    requires kept { IsKept ⟦<K as Keeper>⟧ desk.old.keeper (tables_of desk.old.state) }
     requires asked { IsObservable name.now row }
-    ensures stays { StaysKept Keeper-dyn desk.old desk.new }
+    ensures stays { StaysKept ⟦<K as Keeper>⟧ desk.old desk.new }
     ensures all { IfOk result (λ failed. Learns now (names_of name.now (row ∷ [])) (session_of desk.old.state) (session_of desk.new.state)
-        lines.old lines.new (faults_of Keeper-dyn desk.old.keeper) (faults_of Keeper-dyn desk.new.keeper) failed) }
+        lines.old lines.new (faults_of ⟦<K as Keeper>⟧ desk.old.keeper) (faults_of ⟦<K as Keeper>⟧ desk.new.keeper) failed) }
     ensures part { OnErr result (LearnsFirst now (names_of name.now (row ∷ [])) (session_of desk.old.state) (session_of desk.new.state)
-        (faults_of Keeper-dyn desk.old.keeper) (faults_of Keeper-dyn desk.new.keeper)) }
-    ensures keeper { IfOk result (λ failed. Counts failed (faults_of Keeper-dyn desk.old.keeper) (faults_of Keeper-dyn desk.new.keeper)) }
+        (faults_of ⟦<K as Keeper>⟧ desk.old.keeper) (faults_of ⟦<K as Keeper>⟧ desk.new.keeper)) }
+    ensures keeper { IfOk result (λ failed. Counts failed (faults_of ⟦<K as Keeper>⟧ desk.old.keeper) (faults_of ⟦<K as Keeper>⟧ desk.new.keeper)) }
 {
     let reply = observe(alloc, desk, name, row, now, steps)?;
     append_name(alloc, lines, name, row, &reply)?;
@@ -96,22 +97,22 @@ fn learn_row<L: Ledger>(
 
 /// Observes the addresses of a name, one after the other, at this moment, and adds the line of each.
 /// The answer is whether the keeper failed at one of them; those behind it are observed.
-fn learn_rows<L: Ledger>(
+fn learn_rows<K: Keeper, L: Ledger>(
     alloc: Global,
-    desk: &mut Desk,
+    desk: &mut Desk<K>,
     lines: &mut Bytes,
     answers: &Answers,
     now: Moment,
     steps: &mut Steps<L>,
 ) -> Result<bool, Memory>
-    requires kept { IsKept Keeper-dyn desk.old.keeper (tables_of desk.old.state) }
+    requires kept { IsKept ⟦<K as Keeper>⟧ desk.old.keeper (tables_of desk.old.state) }
     requires asked { All (IsObservable answers.now.name) answers.now.rows }
-    ensures stays { StaysKept Keeper-dyn desk.old desk.new }
+    ensures stays { StaysKept ⟦<K as Keeper>⟧ desk.old desk.new }
     ensures all { IfOk result (λ failed. Learns now (Some (Ok answers.now)) (session_of desk.old.state) (session_of desk.new.state)
-        lines.old lines.new (faults_of Keeper-dyn desk.old.keeper) (faults_of Keeper-dyn desk.new.keeper) failed) }
+        lines.old lines.new (faults_of ⟦<K as Keeper>⟧ desk.old.keeper) (faults_of ⟦<K as Keeper>⟧ desk.new.keeper) failed) }
     ensures part { OnErr result (LearnsFirst now (Some (Ok answers.now)) (session_of desk.old.state) (session_of desk.new.state)
-        (faults_of Keeper-dyn desk.old.keeper) (faults_of Keeper-dyn desk.new.keeper)) }
-    ensures keeper { IfOk result (λ failed. Counts failed (faults_of Keeper-dyn desk.old.keeper) (faults_of Keeper-dyn desk.new.keeper)) }
+        (faults_of ⟦<K as Keeper>⟧ desk.old.keeper) (faults_of ⟦<K as Keeper>⟧ desk.new.keeper)) }
+    ensures keeper { IfOk result (λ failed. Counts failed (faults_of ⟦<K as Keeper>⟧ desk.old.keeper) (faults_of ⟦<K as Keeper>⟧ desk.new.keeper)) }
 {
     let mut failed = false;
     for row in answers.rows.as_slice() {
@@ -123,21 +124,21 @@ fn learn_rows<L: Ledger>(
 
 /// Reads a DNS message, and observes the addresses that it answers, at this moment. Their lines are
 /// added, or that of the message's fault.
-pub(crate) fn learn<L: Ledger>(
+pub(crate) fn learn<K: Keeper, L: Ledger>(
     alloc: Global,
-    desk: &mut Desk,
+    desk: &mut Desk<K>,
     lines: &mut Bytes,
     message: &[u8],
     now: Moment,
     steps: &mut Steps<L>,
 ) -> Result<bool, Memory>
-    requires kept { IsKept Keeper-dyn desk.old.keeper (tables_of desk.old.state) }
-    ensures stays { StaysKept Keeper-dyn desk.old desk.new }
+    requires kept { IsKept ⟦<K as Keeper>⟧ desk.old.keeper (tables_of desk.old.state) }
+    ensures stays { StaysKept ⟦<K as Keeper>⟧ desk.old desk.new }
     ensures all { IfOk result (λ failed. Learns now (Some (answers_of message.now)) (session_of desk.old.state) (session_of desk.new.state)
-        lines.old lines.new (faults_of Keeper-dyn desk.old.keeper) (faults_of Keeper-dyn desk.new.keeper) failed) }
+        lines.old lines.new (faults_of ⟦<K as Keeper>⟧ desk.old.keeper) (faults_of ⟦<K as Keeper>⟧ desk.new.keeper) failed) }
     ensures part { OnErr result (LearnsFirst now (Some (answers_of message.now)) (session_of desk.old.state) (session_of desk.new.state)
-        (faults_of Keeper-dyn desk.old.keeper) (faults_of Keeper-dyn desk.new.keeper)) }
-    ensures keeper { IfOk result (λ failed. Counts failed (faults_of Keeper-dyn desk.old.keeper) (faults_of Keeper-dyn desk.new.keeper)) }
+        (faults_of ⟦<K as Keeper>⟧ desk.old.keeper) (faults_of ⟦<K as Keeper>⟧ desk.new.keeper)) }
+    ensures keeper { IfOk result (λ failed. Counts failed (faults_of ⟦<K as Keeper>⟧ desk.old.keeper) (faults_of ⟦<K as Keeper>⟧ desk.new.keeper)) }
 {
     match read_answers(alloc, message) {
         Ok(answers) => learn_rows(alloc, desk, lines, &answers, now, steps),

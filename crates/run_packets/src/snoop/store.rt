@@ -13,7 +13,7 @@ use run_desk::refuse_store;
 use std::alloc::Global;
 
 /// Opens a desk over the keeper, and then judges the packets of a capture and learns names from the
-/// answers of DNS servers in it. Where the store can't be opened, the capture isn't read. The box is
+/// answers of DNS servers in it. Where the store can't be opened, the capture isn't read. The keeper is
 /// handed back. Nothing was taken before, as [`Desk::open`] wants it: [`Loaded::new`].
 ///
 /// | Status | It comes |
@@ -24,14 +24,14 @@ use std::alloc::Global;
 /// | 5 | want of memory: the run ends there, and no line says so |
 /// | 6 | an item of the store is no record |
 /// | 7 | the keeper failed in the opening, or at a name; what follows it in the capture is judged |
-pub fn snoop_store<D: Door>(
+pub fn snoop_store<K: Keeper, D: Door>(
     alloc: Global,
-    keeper: Box<dyn Keeper>,
+    keeper: K,
     nothing: Loaded,
     door: &mut D,
-) -> (Status, Box<dyn Keeper>)
+) -> (Status, K)
     requires { kept_of nothing ≡ none_kept }
-    ensures { SnoopsStore Keeper-dyn D.tells keeper result.1
+    ensures { SnoopsStore ⟦<K as Keeper>⟧ D.tells keeper result.1
         (D.view door.old)
         (D.view door.new)
         (status_number result.0) }

@@ -7,7 +7,7 @@ ghost use Rattle.run_common.specs.Status.{Is, IsNot, IsOneOf, status_number};
 ghost use Rattle.run_common.specs.declared.status.Status.TheVariants.{Done, Refused, DoorFailed, NoMemory, KeeperFailed};
 ghost use Rattle.mud_desk.specs.Items.Loaded.{kept_of};
 ghost use Rattle.desk_model.specs.Items.{none_kept};
-ghost use Rattle.desk_model.specs.Boxed.{IsKept};
+ghost use Rattle.desk_model.specs.Kept.{IsKept};
 ghost use Rattle.mud_desk.specs.DeskState.{tables_of, session_of};
 ghost use Rattle.run_packets.specs.Tally.Store.{TalliesStore, output_of_tally};
 ghost use Rattle.run_packets.specs.Tally.Tallied.{begun, tally_step};
@@ -23,8 +23,8 @@ use std::alloc::Global;
 /// Reads a capture, judges its packets in the desk's session, and writes how often each ruling was
 /// given, hour by hour, and at the end what was denied; then the line of the fault that ends the
 /// capture. The keeper isn't called.
-fn tally_capture<D: Door>(alloc: Global, desk: Desk, door: &mut D) -> (Status, Box<dyn Keeper>)
-    requires { IsKept Keeper-dyn desk.keeper (tables_of desk.state) }
+fn tally_capture<K: Keeper, D: Door>(alloc: Global, desk: Desk<K>, door: &mut D) -> (Status, K)
+    requires { IsKept ⟦<K as Keeper>⟧ desk.keeper (tables_of desk.state) }
     ensures statuses { IsOneOf (Done ∷ Refused ∷ DoorFailed ∷ NoMemory ∷ []) (status_number result.0) }
     ensures fault { Is DoorFailed (status_number result.0) → IsStopped (D.view door.old) (D.view door.new) }
     ensures steady { IsNot DoorFailed (status_number result.0) → IsSteady (D.view door.old) (D.view door.new) }
@@ -49,16 +49,16 @@ fn tally_capture<D: Door>(alloc: Global, desk: Desk, door: &mut D) -> (Status, B
 }
 
 /// Opens a desk over the keeper, and then reads a capture and writes its tally. Where the store can't
-/// be opened, the capture isn't read. The box is handed back. Nothing was taken before, as
+/// be opened, the capture isn't read. The keeper is handed back. Nothing was taken before, as
 /// [`Desk::open`] wants it: [`Loaded::new`].
-pub fn tally_store<D: Door>(
+pub fn tally_store<K: Keeper, D: Door>(
     alloc: Global,
-    keeper: Box<dyn Keeper>,
+    keeper: K,
     nothing: Loaded,
     door: &mut D,
-) -> (Status, Box<dyn Keeper>)
+) -> (Status, K)
     requires { kept_of nothing ≡ none_kept }
-    ensures tallied { TalliesStore Keeper-dyn D.tells keeper result.1
+    ensures tallied { TalliesStore ⟦<K as Keeper>⟧ D.tells keeper result.1
         (D.view door.old)
         (D.view door.new)
         (status_number result.0) }

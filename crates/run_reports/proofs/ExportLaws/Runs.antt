@@ -1,9 +1,7 @@
 -- What a run of `export` promises where the desk is opened, and where it isn't.
 use Rattle.std.proofs.Common.{◌≡◌, ◌≢◌, ℕ, ◌⊎◌, inl, inr, List, sym, subst, arith}
-use Rattle.std.specs.declared.dyn_box.DynBox.{DynBox}
-use Rattle.std.specs.declared.alloc.Global.{Global}
 use Rattle.mud_world.specs.declared.keeper.Keeper.{Ghosts}
-use Rattle.mud_world.specs.Boxed.{faults_of, Tells, kept_items}
+use Rattle.mud_world.specs.Kept.{faults_of, Tells, kept_items, Rests}
 use Rattle.mud_world.specs.Causes.{StopsAtFailure}
 use Rattle.mud_world.specs.Door.{DoorState}
 use Rattle.mud_base.specs.declared.addr.Mac.{Mac}
@@ -11,7 +9,7 @@ use Rattle.mud_world.specs.Clock.{next_moment}
 use Rattle.mud_world.specs.View.{DoorView}
 use Rattle.desk_model.specs.DeskTables.{DeskTables, IsSound}
 use Rattle.desk_model.specs.Keeping.{KeepsDesk}
-use Rattle.desk_model.specs.Boxed.{IsKept, IsSameBox}
+use Rattle.desk_model.specs.Kept.{IsKept}
 use Rattle.run_desk.proofs.Refusals.{RunsRefused}
 use Rattle.run_desk.proofs.Stores.{keeps_tables, leaves_opened}
 use Rattle.run_reports.specs.Export.Exported.{export_output, WritesLists}
@@ -49,26 +47,27 @@ module _ (mac : Mac) (clock_tells : Type 0) (moments : List ℕ) (old new : Door
 
 -- ---- Runs
 
-module _ {X : Type 0} {F : X → Type 0} (members : (v : (x : X) × F x) → Ghosts (F v.0)) (keeper after : DynBox X Global F) (mac : Mac) (tells clock_tells : Type 0) (moments : List ℕ) (old new : DoorView) (status : ℕ) where
+module _ {K : Type 0} (members : Ghosts K) (keeper after : K) (mac : Mac) (tells clock_tells : Type 0) (moments : List ℕ) (old new : DoorView) (status : ℕ) where
   pub opened_run : (tables : DeskTables)
       → (Tells members keeper → Tells members after → KeepsDesk (kept_items members keeper) tables)
-      → IsSound tables → IsKept members after tables → faults_of members after ≡ faults_of members keeper → IsSameBox keeper after
+      → IsSound tables → IsKept members after tables → faults_of members after ≡ faults_of members keeper
+      → (Tells members after → Tells members keeper) → (Tells members after → Rests members after)
       → IsOfDesk status
       → (status ≡ 4 → StopsAtFailure new.failed old.writes new.writes)
       → (status ≢ 4 → new.writes ≡ old.writes)
       → (tells → WritesThing mac clock_tells moments old.state new.state status tables)
-      → new.turns ≡ old.turns → new.reads ≡ old.reads → (returned : DynBox X Global F) → returned ≡ after
+      → new.turns ≡ old.turns → new.reads ≡ old.reads → (returned : K) → returned ≡ after
       → ExportsStore members mac tells clock_tells moments keeper returned old new status
-  opened_run tables read sound kept same_count same_box is fault steady writes turns reads returned same = subst (λ (box : DynBox X Global F). ExportsStore members mac tells clock_tells moments keeper box old new status) (sym same) (record {
+  opened_run tables read sound kept same_count back rests is fault steady writes turns reads returned same = subst (λ (it : K). ExportsStore members mac tells clock_tells moments keeper box old new status) (sym same) (record {
     honest = record {
       statuses = of_desk status is;
       fault = fault;
       steady = steady;
       keeper_fault = λ seven. no_seven status is seven;
-      same_box = same_box;
+      told = back;
     };
     writes = λ told tell. inl (tables, keeps_tables members after tables sound kept tell, writes told);
-    leaves = leaves_opened members keeper after status tables read sound kept same_count (λ six. no_six status is six);
+    leaves = leaves_opened members keeper after status tables rests read sound kept same_count (λ six. no_six status is six);
     same_turns = turns;
     same_reads = reads;
   })
@@ -80,7 +79,7 @@ module _ {X : Type 0} {F : X → Type 0} (members : (v : (x : X) × F x) → Gho
       fault = run.honest.fault;
       steady = run.honest.steady;
       keeper_fault = run.honest.keeper_fault;
-      same_box = run.honest.same_box;
+      told = run.honest.told;
     };
     writes = λ told tell. inr (run.refuses told tell);
     leaves = run.leaves;

@@ -1,10 +1,8 @@
 -- What a run of `export` over a store does.
 use Rattle.std.specs.Prelude.{◌≡◌, ℕ, List, [], ◌∷◌}
-use Rattle.std.specs.declared.dyn_box.DynBox.{DynBox}
-use Rattle.std.specs.declared.alloc.Global.{Global}
 use Rattle.mud_base.specs.declared.addr.Mac.{Mac}
 use Rattle.mud_world.specs.declared.keeper.Keeper.{Ghosts}
-use Rattle.mud_world.specs.Boxed.{Tells, kept_items}
+use Rattle.mud_world.specs.Kept.{Tells, kept_items}
 use Rattle.mud_world.specs.Clock.{next_moment}
 use Rattle.mud_world.specs.Door.{DoorState}
 use Rattle.run_common.specs.Ends.{IsStoppedWriting}
@@ -30,16 +28,16 @@ pub record WritesThing (mac : Mac) (clock_tells : Type 0) (moments : List ℕ) (
 abbrev pub IsOfDesk : ℕ → Type 0
 IsOfDesk status = IsOneOf (Done ∷ Refused ∷ DoorFailed ∷ NoMemory ∷ []) status
 
-module _ {X : Type 0} {F : X → Type 0} (members : (v : (x : X) × F x) → Ghosts (F v.0)) where
+module _ {K : Type 0} (members : Ghosts K) where
   -- A run of `export`. `tells` says that the door tells its connections, and `clock_tells` that the clock tells its moments, which
   -- are these.
-  pub record ExportsStore (mac : Mac) (tells clock_tells : Type 0) (moments : List ℕ) (keeper returned : DynBox X Global F) (old new : DoorView) (status : ℕ) : Type 0 where
+  pub record ExportsStore (mac : Mac) (tells clock_tells : Type 0) (moments : List ℕ) (keeper returned : K) (old new : DoorView) (status : ℕ) : Type 0 where
     -- A write that fails ends the run.
     pub honest : RunsHonestly members each_status (IsStoppedWriting old new) (new.writes ≡ old.writes) keeper returned status
     -- The items that are kept when the run ends say what the output is.
     pub writes : tells → Tells members returned → ByStore (kept_items members returned) (WritesThing mac clock_tells moments old.state new.state status)
         (RefusesStore (kept_items members returned) old.state new.state status)
     pub leaves : LeavesStore members keeper returned status
-    -- The box that comes back is the one that was handed in. No port is bound, the connection isn't left, and no read fails.
+    -- No port is bound, the connection isn't left, and no read fails.
     pub same_turns : new.turns ≡ old.turns
     pub same_reads : new.reads ≡ old.reads

@@ -3,7 +3,7 @@ ghost use Rattle.std.specs.Prelude.{◌≡◌, ◌⊎◌, Some, codes, option_ma
 ghost use Rattle.mud_world.specs.Clock.{later_moments};
 ghost use Rattle.mud_world.specs.Door.{put_out};
 ghost use Rattle.table_model.specs.Things.{thing_at};
-ghost use Rattle.desk_model.specs.Boxed.{IsKept};
+ghost use Rattle.desk_model.specs.Kept.{IsKept};
 ghost use Rattle.mud_desk.specs.DeskState.{tables_of};
 ghost use Rattle.run_common.specs.Ends.{IsStoppedWriting};
 ghost use Rattle.run_common.specs.Output.{WroteFirst};
@@ -57,9 +57,9 @@ fn export_lists<D: Door>(alloc: Global, sources: &Option<Sources<'_>>, door: &mu
 
 /// Writes the lists of a Thing at the later of the moment of the last change and of that which the
 /// clock gave; empty ones where the operator holds it. Its rules aren't asked for then.
-fn export_thing<D: Door>(
+fn export_thing<K: Keeper, D: Door>(
     alloc: Global,
-    desk: &Desk,
+    desk: &Desk<K>,
     mac: Mac,
     held: bool,
     clock: Moment,
@@ -84,9 +84,9 @@ fn export_thing<D: Door>(
 
 /// The same of a hardware address, at the moment of the clock, which is asked once where there is such a
 /// Thing. Else a line says that there is none.
-fn export_mac<D: Door, C: Clock>(
+fn export_mac<K: Keeper, D: Door, C: Clock>(
     alloc: Global,
-    desk: &Desk,
+    desk: &Desk<K>,
     mac: Mac,
     door: &mut D,
     clock: &mut C,
@@ -117,14 +117,14 @@ fn export_mac<D: Door, C: Clock>(
 /// | 3 | no Thing has this hardware address, and a line says so |
 /// | 4 | a write of the door failed: a first part was written |
 /// | 5 | want of memory: a first part was written, and no line says so |
-pub(crate) fn export_desk<D: Door, C: Clock>(
+pub(crate) fn export_desk<K: Keeper, D: Door, C: Clock>(
     alloc: Global,
-    desk: Desk,
+    desk: Desk<K>,
     mac: Mac,
     door: &mut D,
     clock: &mut C,
-) -> (Status, Box<dyn Keeper>)
-    requires { IsKept Keeper-dyn desk.keeper (tables_of desk.state) }
+) -> (Status, K)
+    requires { IsKept ⟦<K as Keeper>⟧ desk.keeper (tables_of desk.state) }
     ensures statuses { IsOfDesk (status_number result.0) }
     ensures fault { Is DoorFailed (status_number result.0) → IsStoppedWriting (D.view door.old) (D.view door.new) }
     ensures steady { IsNot DoorFailed (status_number result.0) → (D.view door.new).writes ≡ (D.view door.old).writes }

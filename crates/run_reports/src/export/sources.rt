@@ -12,6 +12,7 @@ use acl_rows::RuleView;
 use base_rows::{KeyOf, Steps};
 use mud_base::{Direction, Listed, Mac, Memory, Moment, Prefix};
 use mud_desk::Desk;
+use mud_world::Keeper;
 use rule_export::{Resolved, list_of};
 use std::alloc::Global;
 use std::cmp::Ordering;
@@ -105,7 +106,11 @@ pub(crate) fn held_of(things: &[Thing], mac: Mac) -> Option<bool>
 }
 
 /// What the lists of the Thing of a hardware address are made by at a moment, where there is one.
-pub(crate) fn sources_of<'a>(desk: &'a Desk, mac: Mac, moment: Moment) -> Option<Sources<'a>>
+pub(crate) fn sources_of<'a, K: Keeper>(
+    desk: &'a Desk<K>,
+    mac: Mac,
+    moment: Moment,
+) -> Option<Sources<'a>>
     ensures { spec.AreSourcesOf (tables_of desk.now.state) moment (thing_at mac (tables_of desk.now.state).tables.things) result }
 {
     let Some(from) = desk.rules(mac, Direction::From) else {

@@ -18,18 +18,18 @@ use std::alloc::Global;
 /// Opens a desk over the keeper, and then writes what the Thing of a hardware address may do, as four
 /// access lists with addresses alone (RFC 8519): at the later of the moment of the last change and of
 /// the one that the clock gives. Nothing is read of the door. The clock is asked once, where the store
-/// was opened and there is such a Thing. The box is handed back. Nothing was taken before, as
+/// was opened and there is such a Thing. The keeper is handed back. Nothing was taken before, as
 /// [`Desk::open`] wants it: [`Loaded::new`].
-pub fn export_store<D: Door, C: Clock>(
+pub fn export_store<K: Keeper, D: Door, C: Clock>(
     alloc: Global,
-    keeper: Box<dyn Keeper>,
+    keeper: K,
     nothing: Loaded,
     mac: Mac,
     door: &mut D,
     clock: &mut C,
-) -> (Status, Box<dyn Keeper>)
+) -> (Status, K)
     requires { kept_of nothing ≡ none_kept }
-    ensures exported { ExportsStore Keeper-dyn mac D.tells C.tells (C.moments clock.old) keeper result.1
+    ensures exported { ExportsStore ⟦<K as Keeper>⟧ mac D.tells C.tells (C.moments clock.old) keeper result.1
         (D.view door.old)
         (D.view door.new)
         (status_number result.0) }

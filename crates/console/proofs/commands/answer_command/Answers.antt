@@ -1,6 +1,6 @@
 use Rattle.std.proofs.Common.{Bool, sym, subst}
 use Rattle.mud_world.specs.Causes.{Counts}
-use Rattle.mud_world.specs.Boxed.{faults_of}
+use Rattle.mud_world.specs.Kept.{faults_of}
 use Rattle.mud_desk.specs.DeskState.{session_of}
 use Rattle.console.specs.Replies.{reply}
 use Rattle.console.specs.Origins.{said_of}
@@ -14,4 +14,4 @@ returns-clause-reply g c =
 
 pub returns-clause-cause : goal.returns-clause-cause
 returns-clause-cause g c =
-    subst (λ (b : Bool). Counts b (faults_of (goal.Keeper-dyn g) c.args.desk.now.keeper) (faults_of (goal.Keeper-dyn g) c.run-answered.new.desk.keeper)) (sym c.write_reply.ensures.cause) c.run-answered.ensures.cause
+    subst (λ (b : Bool). Counts b (faults_of g.K.Keeper c.args.desk.now.keeper) (faults_of g.K.Keeper c.run-answered.new.desk.keeper)) (sym c.write_reply.ensures.cause) c.run-answered.ensures.cause

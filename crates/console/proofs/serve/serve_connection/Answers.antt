@@ -1,5 +1,5 @@
 use Rattle.std.proofs.Common.{◌≡◌, refl}
-use Rattle.mud_world.specs.Boxed.{faults_of}
+use Rattle.mud_world.specs.Kept.{faults_of}
 use Rattle.mud_desk.specs.DeskState.{session_of}
 use Rattle.mud_desk.specs.Stays.{StaysKept}
 use Rattle.console.specs.Answers.{fault_answer}
@@ -14,7 +14,7 @@ returns-clause-left g c =
     let moments = g.C.Clock.moments old.clock.now in
     let first = begun (session_of old.desk.state) moments in
     left_of (ConsoleStep g.C.Clock.tells) _ _ first old (λ n k. k.0)
-    (c.serve_connection.ensures.left (first, old) (at_first g.C.Clock.tells old.desk.state moments (faults_of (goal.Keeper-dyn g) old.desk.keeper), (λ t. t), refl, refl, refl))
+    (c.serve_connection.ensures.left (first, old) (at_first g.C.Clock.tells old.desk.state moments (faults_of g.K.Keeper old.desk.keeper), (λ t. t), refl))
 
 pub returns-clause-served : goal.returns-clause-served
 returns-clause-served g c = λ tells.
@@ -22,7 +22,7 @@ returns-clause-served g c = λ tells.
     let moments = g.C.Clock.moments old.clock.now in
     let first = begun (session_of old.desk.state) moments in
     is_served_of (ConsoleStep g.C.Clock.tells) fault_answer c.args.from _ _ first old _ _ _ (λ n k. k.0)
-    (c.serve_connection.ensures.served tells (first, old) (at_first g.C.Clock.tells old.desk.state moments (faults_of (goal.Keeper-dyn g) old.desk.keeper), (λ t. t), refl, refl, refl))
+    (c.serve_connection.ensures.served tells (first, old) (at_first g.C.Clock.tells old.desk.state moments (faults_of g.K.Keeper old.desk.keeper), (λ t. t), refl))
 
 pub returns-clause-stays : goal.returns-clause-stays
 returns-clause-stays g c =
@@ -31,9 +31,9 @@ returns-clause-stays g c =
     let first = begun (session_of old.desk.state) moments in
     let new = c.serve_connection.new.service in
     let ready = c.serve_connection.ensures.ready in
-    beside (ConsoleStep g.C.Clock.tells) _ first old (c.serve_connection.ensures.left (first, old) (at_first g.C.Clock.tells old.desk.state moments (faults_of (goal.Keeper-dyn g) old.desk.keeper), (λ t. t), refl, refl, refl))
-    (λ x. StaysKept (goal.Keeper-dyn g) x.desk new.desk)
-    (λ n k. record { kept = record { is_open = ready.0; items = ready.1 }; told = k.1; same_box = record { object = k.2; pointer = k.3 } })
+    beside (ConsoleStep g.C.Clock.tells) _ first old (c.serve_connection.ensures.left (first, old) (at_first g.C.Clock.tells old.desk.state moments (faults_of g.K.Keeper old.desk.keeper), (λ t. t), refl))
+    (λ x. StaysKept g.K.Keeper x.desk new.desk)
+    (λ n k. record { kept = ready; told = k.1 })
 
 pub returns-clause-same_clock : goal.returns-clause-same_clock
 returns-clause-same_clock g c =
@@ -41,5 +41,5 @@ returns-clause-same_clock g c =
     let moments = g.C.Clock.moments old.clock.now in
     let first = begun (session_of old.desk.state) moments in
     let new = c.serve_connection.new.service in
-    beside (ConsoleStep g.C.Clock.tells) _ first old (c.serve_connection.ensures.left (first, old) (at_first g.C.Clock.tells old.desk.state moments (faults_of (goal.Keeper-dyn g) old.desk.keeper), (λ t. t), refl, refl, refl))
-    (λ x. new.clock.ghost_name ≡ x.clock.ghost_name) (λ n k. k.4)
+    beside (ConsoleStep g.C.Clock.tells) _ first old (c.serve_connection.ensures.left (first, old) (at_first g.C.Clock.tells old.desk.state moments (faults_of g.K.Keeper old.desk.keeper), (λ t. t), refl))
+    (λ x. new.clock.ghost_name ≡ x.clock.ghost_name) (λ n k. k.2)

@@ -8,7 +8,7 @@ pub returns-clause-does : goal.returns-clause-does
 returns-clause-does g c = λ command named.
     let old = world c.args.door.now c.args.spool.now c.args.clock.now in
     let new = world c.run_command-status.new.door c.run_command-status.new.spool c.run_command-status.new.clock in
-    let does = λ (status : ℕ) (named : Command). Does (goal.Keeper-dyn g) g.D.Door g.P.Spool g.C.Clock c.args.keeper c.run_command-status.result.1 old new status named in
+    let does = λ (status : ℕ) (named : Command). Does g.K.Keeper g.D.Door g.P.Spool g.C.Clock c.args.keeper c.run_command-status.result.1 old new status named in
     promised (does c.number-2.result) c.in-Some.command command (sym c.in-Some.is ∙ c.command_of.ensures ∙ named)
     (subst (λ (status : ℕ). does status c.in-Some.command) (sym c.number-2.ensures) c.run_command-status.ensures.does)
 

@@ -14,7 +14,7 @@ returns-in-Hear-clause-does g c =
     let door = g.D.Door in
     let a = c.answer_input.ensures in
     promised_of
-    (λ (named : Command). Does (goal.Keeper-dyn g) g.D.Door g.P.Spool g.C.Clock c.args.keeper c.args.keeper
+    (λ (named : Command). Does g.K.Keeper g.D.Door g.P.Spool g.C.Clock c.args.keeper c.args.keeper
     (world c.args.door.now c.args.spool.now c.args.clock.now) (world c.answer_input.new.door c.args.spool.now c.args.clock.now) (status_number c.answer_input.result) named)
     c.args.command (Hear c.in-Hear.message) c.in-Hear.is
     (record {
@@ -34,7 +34,7 @@ returns-in-Check-clause-does g c =
     let door = g.D.Door in
     let a = c.answer_input-in-Check.ensures in
     promised_of
-    (λ (named : Command). Does (goal.Keeper-dyn g) g.D.Door g.P.Spool g.C.Clock c.args.keeper c.args.keeper
+    (λ (named : Command). Does g.K.Keeper g.D.Door g.P.Spool g.C.Clock c.args.keeper c.args.keeper
     (world c.args.door.now c.args.spool.now c.args.clock.now) (world c.answer_input-in-Check.new.door c.args.spool.now c.args.clock.now) (status_number c.answer_input-in-Check.result) named)
     c.args.command Check c.in-Check.is
     (record {
@@ -53,7 +53,7 @@ returns-in-Frames-clause-does g c =
     let door = g.D.Door in
     let a = c.write_capture.ensures in
     promised_of
-    (λ (named : Command). Does (goal.Keeper-dyn g) g.D.Door g.P.Spool g.C.Clock c.args.keeper c.args.keeper
+    (λ (named : Command). Does g.K.Keeper g.D.Door g.P.Spool g.C.Clock c.args.keeper c.args.keeper
     (world c.args.door.now c.args.spool.now c.args.clock.now) (world c.write_capture.new.door c.args.spool.now c.args.clock.now) (status_number c.write_capture.result) named)
     c.args.command Frames c.in-Frames.is
     (record {
@@ -70,7 +70,7 @@ returns-in-Frames-clause-does g c =
 pub returns-in-Judge-clause-does : goal.returns-in-Judge-clause-does
 returns-in-Judge-clause-does g c =
     promised_of
-    (λ (named : Command). Does (goal.Keeper-dyn g) g.D.Door g.P.Spool g.C.Clock c.args.keeper c.judge_store.result.1
+    (λ (named : Command). Does g.K.Keeper g.D.Door g.P.Spool g.C.Clock c.args.keeper c.judge_store.result.1
     (world c.args.door.now c.args.spool.now c.args.clock.now) (world c.judge_store.new.door c.args.spool.now c.args.clock.now) (status_number c.judge_store.result.0) named)
     c.args.command Judge c.in-Judge.is
     c.judge_store.ensures.judged
@@ -78,7 +78,7 @@ returns-in-Judge-clause-does g c =
 pub returns-in-Snoop-clause-does : goal.returns-in-Snoop-clause-does
 returns-in-Snoop-clause-does g c =
     promised_of
-    (λ (named : Command). Does (goal.Keeper-dyn g) g.D.Door g.P.Spool g.C.Clock c.args.keeper c.snoop_store.result.1
+    (λ (named : Command). Does g.K.Keeper g.D.Door g.P.Spool g.C.Clock c.args.keeper c.snoop_store.result.1
     (world c.args.door.now c.args.spool.now c.args.clock.now) (world c.snoop_store.new.door c.args.spool.now c.args.clock.now) (status_number c.snoop_store.result.0) named)
     c.args.command Snoop c.in-Snoop.is
     c.snoop_store.ensures
@@ -86,7 +86,7 @@ returns-in-Snoop-clause-does g c =
 pub returns-in-Tally-clause-does : goal.returns-in-Tally-clause-does
 returns-in-Tally-clause-does g c =
     promised_of
-    (λ (named : Command). Does (goal.Keeper-dyn g) g.D.Door g.P.Spool g.C.Clock c.args.keeper c.tally_store.result.1
+    (λ (named : Command). Does g.K.Keeper g.D.Door g.P.Spool g.C.Clock c.args.keeper c.tally_store.result.1
     (world c.args.door.now c.args.spool.now c.args.clock.now) (world c.tally_store.new.door c.args.spool.now c.args.clock.now) (status_number c.tally_store.result.0) named)
     c.args.command Tally c.in-Tally.is
     c.tally_store.ensures.tallied
@@ -94,7 +94,7 @@ returns-in-Tally-clause-does g c =
 pub returns-in-Import-clause-does : goal.returns-in-Import-clause-does
 returns-in-Import-clause-does g c =
     promised_of
-    (λ (named : Command). Does (goal.Keeper-dyn g) g.D.Door g.P.Spool g.C.Clock c.args.keeper c.import_store.result.1
+    (λ (named : Command). Does g.K.Keeper g.D.Door g.P.Spool g.C.Clock c.args.keeper c.import_store.result.1
     (world c.args.door.now c.args.spool.now c.args.clock.now) (world c.import_store.new.door c.import_store.new.spool c.import_store.new.clock) (status_number c.import_store.result.0) named)
     c.args.command Import c.in-Import.is
     c.import_store.ensures
@@ -102,7 +102,7 @@ returns-in-Import-clause-does g c =
 pub returns-in-Replay-clause-does : goal.returns-in-Replay-clause-does
 returns-in-Replay-clause-does g c =
     promised_of
-    (λ (named : Command). Does (goal.Keeper-dyn g) g.D.Door g.P.Spool g.C.Clock c.args.keeper c.replay_store.result.1
+    (λ (named : Command). Does g.K.Keeper g.D.Door g.P.Spool g.C.Clock c.args.keeper c.replay_store.result.1
     (world c.args.door.now c.args.spool.now c.args.clock.now) (world c.replay_store.new.door c.args.spool.now c.args.clock.now) (status_number c.replay_store.result.0) named)
     c.args.command Replay c.in-Replay.is
     c.replay_store.ensures.replayed
@@ -110,7 +110,7 @@ returns-in-Replay-clause-does g c =
 pub returns-in-Serve-clause-does : goal.returns-in-Serve-clause-does
 returns-in-Serve-clause-does g c =
     promised_of
-    (λ (named : Command). Does (goal.Keeper-dyn g) g.D.Door g.P.Spool g.C.Clock c.args.keeper c.serve_store.result.1
+    (λ (named : Command). Does g.K.Keeper g.D.Door g.P.Spool g.C.Clock c.args.keeper c.serve_store.result.1
     (world c.args.door.now c.args.spool.now c.args.clock.now) (world c.serve_store.new.door c.args.spool.now c.serve_store.new.clock) (status_number c.serve_store.result.0) named)
     c.args.command (Serve c.in-Serve.port c.in-Serve.count) c.in-Serve.is
     (c.serve_store.ensures.served, λ failed. (c.serve_store.ensures.untouched failed).1)
@@ -119,7 +119,7 @@ pub returns-in-Report-clause-does : goal.returns-in-Report-clause-does
 returns-in-Report-clause-does g c =
     let asks = c.report_store.ensures in
     promised_of
-    (λ (named : Command). Does (goal.Keeper-dyn g) g.D.Door g.P.Spool g.C.Clock c.args.keeper c.report_store.result.1
+    (λ (named : Command). Does g.K.Keeper g.D.Door g.P.Spool g.C.Clock c.args.keeper c.report_store.result.1
     (world c.args.door.now c.args.spool.now c.args.clock.now) (world c.report_store.new.door c.args.spool.now c.report_store.new.clock) (status_number c.report_store.result.0) named)
     c.args.command (Report c.in-Report.kind) c.in-Report.is
     (c.report_store.ensures.reported, record { asked = asks.asked; once = asks.once; unasked = asks.unasked; unopened = asks.unopened })
@@ -128,7 +128,7 @@ pub returns-in-Export-clause-does : goal.returns-in-Export-clause-does
 returns-in-Export-clause-does g c =
     let asks = c.export_store.ensures in
     promised_of
-    (λ (named : Command). Does (goal.Keeper-dyn g) g.D.Door g.P.Spool g.C.Clock c.args.keeper c.export_store.result.1
+    (λ (named : Command). Does g.K.Keeper g.D.Door g.P.Spool g.C.Clock c.args.keeper c.export_store.result.1
     (world c.args.door.now c.args.spool.now c.args.clock.now) (world c.export_store.new.door c.args.spool.now c.export_store.new.clock) (status_number c.export_store.result.0) named)
     c.args.command (Export c.in-Export.mac) c.in-Export.is
     (c.export_store.ensures.exported, record { asked = asks.asked; once = asks.once; unasked = asks.unasked })
@@ -136,7 +136,7 @@ returns-in-Export-clause-does g c =
 pub returns-in-Drill-clause-does : goal.returns-in-Drill-clause-does
 returns-in-Drill-clause-does g c =
     promised_of
-    (λ (named : Command). Does (goal.Keeper-dyn g) g.D.Door g.P.Spool g.C.Clock c.args.keeper c.run_drill.result.1
+    (λ (named : Command). Does g.K.Keeper g.D.Door g.P.Spool g.C.Clock c.args.keeper c.run_drill.result.1
     (world c.args.door.now c.args.spool.now c.args.clock.now) (world c.run_drill.new.door c.args.spool.now c.args.clock.now) (status_number c.run_drill.result.0) named)
     c.args.command (Drill c.in-Drill.packets) c.in-Drill.is
     c.run_drill.ensures.drilled

@@ -17,11 +17,11 @@ returns-in-Ok-clause-judged g c =
     let store = c.in-Ok.ensures in
     let run = c.judge_capture.ensures in
     let tables = tables_of desk.state in
-    opened_over (goal.Keeper-dyn g) c.args.keeper desk.keeper door.tells
+    opened_over g.K.Keeper c.args.keeper desk.keeper door.tells
     (door.view old)
     (door.view new)
     (status_number c.judge_capture.result.0) judged_output judged_step opened
-    tables store.tables store.sound store.kept store.steady store.same_box
+    tables store.tables store.sound store.kept store.steady store.told store.rests
     run.statuses run.fault run.steady (rw store.begun at run.done) (rw store.begun at run.part) (rw store.begun at run.taken) run.turns
     c.judge_capture.result.1 run.keeper
 
@@ -32,7 +32,7 @@ returns-in-Err-clause-judged g c =
     let new = c.refuse_store.new.door in
     let store = c.in-Err.ensures in
     let run = c.refuse_store.ensures in
-    refused_over (goal.Keeper-dyn g) c.args.keeper c.in-Err.keeper door.tells (door.view old) (door.view new) (status_number c.refuse_store.result) judged_output judged_step opened
-    (runs_refused (goal.Keeper-dyn g) c.args.keeper c.in-Err.keeper door.tells (door.view old) (door.view new) (status_number c.refuse_store.result)
-    c.in-Err.fault store.bad store.left store.cause store.handed_back
+    refused_over g.K.Keeper c.args.keeper c.in-Err.keeper door.tells (door.view old) (door.view new) (status_number c.refuse_store.result) judged_output judged_step opened
+    (runs_refused g.K.Keeper c.args.keeper c.in-Err.keeper door.tells (door.view old) (door.view new) (status_number c.refuse_store.result)
+    c.in-Err.fault store.bad store.left store.cause store.untold
     run.statuses run.fault run.steady run.done run.part (λ call. ap (λ d. (door.view d).state) (run.untouched call)) run.turns run.reads)

@@ -10,7 +10,7 @@ returns-in-Ok-clause-drilled g c =
     let new = c.write_lines.new.door in
     let run = c.write_lines.ensures in
     let after = c.run_commands-ran.new.desk in
-    lines_run (goal.Keeper-dyn g) door.tells c.args.packets c.args.desk after c.lists_are_sound.ensures
+    lines_run g.K.Keeper door.tells c.args.packets c.args.desk after c.lists_are_sound.ensures
     (door.view old)
     (door.view new)
     (status_number c.write_lines.result.0)
@@ -21,7 +21,7 @@ returns-in-Err-clause-drilled g c =
     let door = g.D.Door in
     let old = c.args.door.now in
     let after = c.run_commands-ran.new.desk in
-    stopped_run (goal.Keeper-dyn g) door.tells c.args.packets c.args.desk after c.lists_are_sound.ensures
+    stopped_run g.K.Keeper door.tells c.args.packets c.args.desk after c.lists_are_sound.ensures
     (door.view old)
     (door.view old)
     (status_number c.status.result)

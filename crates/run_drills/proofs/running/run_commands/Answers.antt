@@ -13,7 +13,7 @@ returns-in_err-run_round-clause-part g c =
     let files = c.file_count-files.result in
     let bound = c.in_ok-bound.bound in
     let is = parts_with packets things files bound c.thing_count-things.ensures.value c.file_count-files.ensures c.in_ok-bound.ensures.made in
-    rw (p.1, p.2) (part_one (goal.Keeper-dyn g) c.args.desk.now (round_commands Announcements things) (round_commands Leases things) (round_commands Files files) (bound ∷ []) (round_commands Hosts files) (drill_commands packets) is
+    rw (p.1, p.2) (part_one g.K.Keeper c.args.desk.now (round_commands Announcements things) (round_commands Leases things) (round_commands Files files) (bound ∷ []) (round_commands Hosts files) (drill_commands packets) is
     c.run_round.new.desk _ c.in_err-run_round.ensures.part)
 
 pub returns-in_err-run_round-2-clause-part : goal.returns-in_err-run_round-2-clause-part
@@ -24,7 +24,7 @@ returns-in_err-run_round-2-clause-part g c =
     let files = c.file_count-files.result in
     let bound = c.in_ok-bound.bound in
     let is = parts_with packets things files bound c.thing_count-things.ensures.value c.file_count-files.ensures c.in_ok-bound.ensures.made in
-    rw (p.1, p.2) (part_two (goal.Keeper-dyn g) c.args.desk.now (round_commands Announcements things) (round_commands Leases things) (round_commands Files files) (bound ∷ []) (round_commands Hosts files) (drill_commands packets) is
+    rw (p.1, p.2) (part_two g.K.Keeper c.args.desk.now (round_commands Announcements things) (round_commands Leases things) (round_commands Files files) (bound ∷ []) (round_commands Hosts files) (drill_commands packets) is
     c.run_round.new.desk c.in_ok-run_round.ensures.all c.run_round-2.new.desk _ c.in_err-run_round-2.ensures.part)
 
 pub returns-in_err-run_round-3-clause-part : goal.returns-in_err-run_round-3-clause-part
@@ -35,7 +35,7 @@ returns-in_err-run_round-3-clause-part g c =
     let files = c.file_count-files.result in
     let bound = c.in_ok-bound.bound in
     let is = parts_with packets things files bound c.thing_count-things.ensures.value c.file_count-files.ensures c.in_ok-bound.ensures.made in
-    rw (p.1, p.2) (part_three (goal.Keeper-dyn g) c.args.desk.now (round_commands Announcements things) (round_commands Leases things) (round_commands Files files) (bound ∷ []) (round_commands Hosts files) (drill_commands packets) is
+    rw (p.1, p.2) (part_three g.K.Keeper c.args.desk.now (round_commands Announcements things) (round_commands Leases things) (round_commands Files files) (bound ∷ []) (round_commands Hosts files) (drill_commands packets) is
     c.run_round.new.desk c.in_ok-run_round.ensures.all c.run_round-2.new.desk c.in_ok-run_round-2.ensures.all c.run_round-3.new.desk _ c.in_err-run_round-3.ensures.part)
 
 pub returns-in_err-run-clause-part : goal.returns-in_err-run-clause-part
@@ -46,7 +46,7 @@ returns-in_err-run-clause-part g c =
     let files = c.file_count-files.result in
     let bound = c.in_ok-bound.bound in
     let is = parts_with packets things files bound c.thing_count-things.ensures.value c.file_count-files.ensures c.in_ok-bound.ensures.made in
-    rw (p.1, p.2) (part_four (goal.Keeper-dyn g) c.args.desk.now (round_commands Announcements things) (round_commands Leases things) (round_commands Files files) (bound ∷ []) (round_commands Hosts files) (drill_commands packets) is
+    rw (p.1, p.2) (part_four g.K.Keeper c.args.desk.now (round_commands Announcements things) (round_commands Leases things) (round_commands Files files) (bound ∷ []) (round_commands Hosts files) (drill_commands packets) is
     c.run_round.new.desk c.in_ok-run_round.ensures.all c.run_round-2.new.desk c.in_ok-run_round-2.ensures.all c.run_round-3.new.desk c.in_ok-run_round-3.ensures.all c.run.new.desk _ c.in_err-run.ensures.part)
 
 pub returns-clause-all : goal.returns-clause-all
@@ -56,7 +56,7 @@ returns-clause-all g c =
     let files = c.file_count-files.result in
     let bound = c.in_ok-bound.bound in
     let is = parts_with packets things files bound c.thing_count-things.ensures.value c.file_count-files.ensures c.in_ok-bound.ensures.made in
-    all_five (goal.Keeper-dyn g) c.args.desk.now (round_commands Announcements things) (round_commands Leases things) (round_commands Files files) (bound ∷ []) (round_commands Hosts files) (drill_commands packets) is
+    all_five g.K.Keeper c.args.desk.now (round_commands Announcements things) (round_commands Leases things) (round_commands Files files) (bound ∷ []) (round_commands Hosts files) (drill_commands packets) is
     c.run_round.new.desk c.in_ok-run_round.ensures.all c.run_round-2.new.desk c.in_ok-run_round-2.ensures.all c.run_round-3.new.desk c.in_ok-run_round-3.ensures.all c.run.new.desk c.in_ok-run.ensures.all c.run_round-4.new.desk c.run_round-4.result c.run_round-4.ensures.all
 
 pub returns-clause-part : goal.returns-clause-part
@@ -66,5 +66,5 @@ returns-clause-part g c =
     let files = c.file_count-files.result in
     let bound = c.in_ok-bound.bound in
     let is = parts_with packets things files bound c.thing_count-things.ensures.value c.file_count-files.ensures c.in_ok-bound.ensures.made in
-    part_five (goal.Keeper-dyn g) c.args.desk.now (round_commands Announcements things) (round_commands Leases things) (round_commands Files files) (bound ∷ []) (round_commands Hosts files) (drill_commands packets) is
+    part_five g.K.Keeper c.args.desk.now (round_commands Announcements things) (round_commands Leases things) (round_commands Files files) (bound ∷ []) (round_commands Hosts files) (drill_commands packets) is
     c.run_round.new.desk c.in_ok-run_round.ensures.all c.run_round-2.new.desk c.in_ok-run_round-2.ensures.all c.run_round-3.new.desk c.in_ok-run_round-3.ensures.all c.run.new.desk c.in_ok-run.ensures.all c.run_round-4.new.desk c.run_round-4.result c.run_round-4.ensures.part

@@ -16,7 +16,7 @@ returns-in_err-run-clause-part g c =
     let thing = c.args.thing in
     let first = fetched_is c.fetched_file.result c.in_ok-file.file thing c.fetched_file.ensures.made c.in_ok-file.ensures in
     let second = approval_is c.in_ok-approved.approved c.octets.result.now c.in_ok-file.file thing c.in_ok-approved.ensures.made c.octets.ensures c.in_ok-file.ensures in
-    rw (p.1, p.2) (part_more (goal.Keeper-dyn g) c.args.desk.now _ _ (c.fetched_file.result ∷ []) (c.in_ok-approved.approved ∷ []) (commands_of Files thing)
+    rw (p.1, p.2) (part_more g.K.Keeper c.args.desk.now _ _ (c.fetched_file.result ∷ []) (c.in_ok-approved.approved ∷ []) (commands_of Files thing)
     (two c.fetched_file.result c.in_ok-approved.approved (fetched_file thing) (approval thing) first second) c.in_err-run.ensures.part)
 
 pub returns-clause-all : goal.returns-clause-all
@@ -24,7 +24,7 @@ returns-clause-all g c =
     let thing = c.args.thing in
     let first = fetched_is c.fetched_file.result c.in_ok-file.file thing c.fetched_file.ensures.made c.in_ok-file.ensures in
     let second = approval_is c.in_ok-approved.approved c.octets.result.now c.in_ok-file.file thing c.in_ok-approved.ensures.made c.octets.ensures c.in_ok-file.ensures in
-    both_all (goal.Keeper-dyn g) c.args.desk.now c.run.new.desk (c.fetched_file.result ∷ []) c.in_ok-run.ensures.all
+    both_all g.K.Keeper c.args.desk.now c.run.new.desk (c.fetched_file.result ∷ []) c.in_ok-run.ensures.all
     c.run-2.new.desk (c.in_ok-approved.approved ∷ []) (commands_of Files thing)
     (two c.fetched_file.result c.in_ok-approved.approved (fetched_file thing) (approval thing) first second) c.run-2.result c.run-2.ensures.all
 
@@ -33,6 +33,6 @@ returns-clause-part g c =
     let thing = c.args.thing in
     let first = fetched_is c.fetched_file.result c.in_ok-file.file thing c.fetched_file.ensures.made c.in_ok-file.ensures in
     let second = approval_is c.in_ok-approved.approved c.octets.result.now c.in_ok-file.file thing c.in_ok-approved.ensures.made c.octets.ensures c.in_ok-file.ensures in
-    both_err (goal.Keeper-dyn g) c.args.desk.now c.run.new.desk (c.fetched_file.result ∷ []) c.in_ok-run.ensures.all
+    both_err g.K.Keeper c.args.desk.now c.run.new.desk (c.fetched_file.result ∷ []) c.in_ok-run.ensures.all
     c.run-2.new.desk (c.in_ok-approved.approved ∷ []) (commands_of Files thing)
     (two c.fetched_file.result c.in_ok-approved.approved (fetched_file thing) (approval thing) first second) c.run-2.result c.run-2.ensures.part

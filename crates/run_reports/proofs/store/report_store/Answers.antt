@@ -15,11 +15,11 @@ returns-in-Ok-clause-reported g c =
     let desk = c.in-Ok.desk in
     let store = c.in-Ok.ensures in
     let run = c.report_desk.ensures in
-    opened_run (goal.Keeper-dyn g) c.args.keeper desk.keeper c.args.kind door.tells clock.tells (clock.moments c.args.clock.now)
+    opened_run g.K.Keeper c.args.keeper desk.keeper c.args.kind door.tells clock.tells (clock.moments c.args.clock.now)
     (door.view old)
     (door.view new)
     (status_number c.report_desk.result.0)
-    (tables_of desk.state) store.tables store.sound store.kept store.steady store.same_box
+    (tables_of desk.state) store.tables store.sound store.kept store.steady store.told store.rests
     run.statuses run.fault run.steady run.writes run.turns run.reads
     c.report_desk.result.1 run.keeper
 
@@ -31,7 +31,7 @@ returns-in-Err-clause-reported g c =
     let new = c.refuse_store.new.door in
     let store = c.in-Err.ensures in
     let run = c.refuse_store.ensures in
-    refused_report (goal.Keeper-dyn g) c.args.keeper c.in-Err.keeper c.args.kind door.tells clock.tells (clock.moments c.args.clock.now) (door.view old) (door.view new) (status_number c.refuse_store.result)
-    (runs_refused (goal.Keeper-dyn g) c.args.keeper c.in-Err.keeper door.tells (door.view old) (door.view new) (status_number c.refuse_store.result)
-    c.in-Err.fault store.bad store.left store.cause store.handed_back
+    refused_report g.K.Keeper c.args.keeper c.in-Err.keeper c.args.kind door.tells clock.tells (clock.moments c.args.clock.now) (door.view old) (door.view new) (status_number c.refuse_store.result)
+    (runs_refused g.K.Keeper c.args.keeper c.in-Err.keeper door.tells (door.view old) (door.view new) (status_number c.refuse_store.result)
+    c.in-Err.fault store.bad store.left store.cause store.untold
     run.statuses run.fault run.steady run.done run.part (λ call. ap (λ d. (door.view d).state) (run.untouched call)) run.turns run.reads)

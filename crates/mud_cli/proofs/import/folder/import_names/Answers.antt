@@ -17,7 +17,7 @@ loop-name-preserved g c =
     let after = status_number c.worse-status.result in
     let steady = c.in_ok-one.ensures.steady refl in
     record {
-      stays = stays_further (goal.Keeper-dyn g) c.loop-name.invariant.stays c.in_ok-one.ensures.stays;
+      stays = stays_further g.K.Keeper c.loop-name.invariant.stays c.in_ok-one.ensures.stays;
       history = c.in_ok-one.ensures.history ∙ c.loop-name.invariant.history;
       all = λ d p k.
           all_at (g.P.Spool.view c.args.spool.now).files (g.P.Spool.view c.loop-name.spool).files c.args.names.now c.loop-name.name-index c.name-item.result c.octets.result.now (c.loop-name.invariant.same p) c.loop-name-test.true c.name-item.is c.octets.ensures
@@ -33,4 +33,4 @@ loop-name-preserved g c =
     }
 
 pub returns-in_err-one-clause-stays : goal.returns-in_err-one-clause-stays
-returns-in_err-one-clause-stays g c = stays_further (goal.Keeper-dyn g) c.loop-name.invariant.stays c.in_err-one.ensures.stays
+returns-in_err-one-clause-stays g c = stays_further g.K.Keeper c.loop-name.invariant.stays c.in_err-one.ensures.stays

@@ -1,5 +1,5 @@
 use Rattle.std.proofs.Common.{◌≡◌, ◌⊎◌, ◌==◌, take}
-use Rattle.mud_world.specs.Boxed.{faults_of}
+use Rattle.mud_world.specs.Kept.{faults_of}
 use Rattle.mud_world.specs.Causes.{Counts}
 use Rattle.run_common.specs.Status.{status_number}
 use Rattle.mud_desk.specs.Stays.{StaysKept}
@@ -12,7 +12,7 @@ invariant-loop-name g l =
     let door = g.D.Door in
     let spool = g.P.Spool in
     let clock = g.C.Clock in
-    let members = goal.Keeper-dyn g in
+    let members = g.K.Keeper in
     let status = status_number l.status in
     record {
       stays : StaysKept members l.initial.desk l.desk;

@@ -17,13 +17,13 @@ returns-in-Ok g c =
     let after = c.import_files-status.new.desk in
     let store = c.in-Ok.ensures in
     let run = c.import_files-status.ensures in
-    imported_run (goal.Keeper-dyn g) c.args.keeper (door.tells × (spool.tells × clock.tells))
+    imported_run g.K.Keeper c.args.keeper (door.tells × (spool.tells × clock.tells))
     (outside (door.view old)
     (spool_viewed (spool.view c.args.spool.now).files (spool.view c.args.spool.now).faults (spool.view c.args.spool.now).failed) (clock.moments c.args.clock.now))
     (outside (door.view new)
     (spool_viewed (spool.view c.import_files-status.new.spool).files (spool.view c.import_files-status.new.spool).faults (spool.view c.import_files-status.new.spool).failed) (clock.moments c.import_files-status.new.clock))
     (status_number c.import_files-status.result)
-    desk after store.tables store.sound store.begun store.steady store.same_box
+    desk after store.tables store.sound store.begun store.steady store.told
     run.stays c.lists_are_sound.ensures run.statuses run.fault run.steady run.keeper run.keeper_steady
     (λ told. run.done told.0 told.1.0 told.1.1) (λ told. run.part told.0 told.1.0 told.1.1) (λ told. run.same told.1.0) run.turns run.reads
     c.close.result c.close.ensures
@@ -37,13 +37,13 @@ returns-in-Err g c =
     let new = c.refuse_store.new.door in
     let store = c.in-Err.ensures in
     let run = c.refuse_store.ensures in
-    refused_import (goal.Keeper-dyn g) c.args.keeper c.in-Err.keeper (door.tells × (spool.tells × clock.tells))
+    refused_import g.K.Keeper c.args.keeper c.in-Err.keeper (door.tells × (spool.tells × clock.tells))
     (outside (door.view old)
     (spool_viewed (spool.view c.args.spool.now).files (spool.view c.args.spool.now).faults (spool.view c.args.spool.now).failed) (clock.moments c.args.clock.now))
     (outside (door.view new)
     (spool_viewed (spool.view c.args.spool.now).files (spool.view c.args.spool.now).faults (spool.view c.args.spool.now).failed) (clock.moments c.args.clock.now))
     (status_number c.refuse_store.result)
-    (runs_refused (goal.Keeper-dyn g) c.args.keeper c.in-Err.keeper (door.tells × (spool.tells × clock.tells)) (door.view old) (door.view new) (status_number c.refuse_store.result)
-    c.in-Err.fault store.bad store.left store.cause store.handed_back
+    (runs_refused g.K.Keeper c.args.keeper c.in-Err.keeper (door.tells × (spool.tells × clock.tells)) (door.view old) (door.view new) (status_number c.refuse_store.result)
+    c.in-Err.fault store.bad store.left store.cause store.untold
     run.statuses run.fault run.steady (λ told. run.done told.0) (λ told. run.part told.0) (λ call. ap (λ d. (door.view d).state) (run.untouched call)) run.turns run.reads)
     refl refl

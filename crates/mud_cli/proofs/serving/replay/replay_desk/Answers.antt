@@ -1,6 +1,6 @@
 use Rattle.run_common.specs.Status.{status_number}
 use Rattle.mud_world.specs.View.{viewed}
-use Rattle.mud_world.specs.Boxed.{faults_of}
+use Rattle.mud_world.specs.Kept.{faults_of}
 use Rattle.mud_cli.proofs.ServingLaws.Replays.{replayed}
 use Rattle.mud_cli.proofs.serving.replay.replay_desk.Goals as goal
 
@@ -12,7 +12,7 @@ returns-clause-replays g c = λ tables is.
     let desk = c.args.desk in
     let after = c.serve_connection-end.new.console.desk in
     let run = c.serve_connection-end.ensures in
-    replayed (goal.Keeper-dyn g) door.tells tables desk.state after.state (faults_of (goal.Keeper-dyn g) desk.keeper) after.keeper c.close.result c.serve_connection-end.result
+    replayed g.K.Keeper door.tells tables desk.state after.state (faults_of g.K.Keeper desk.keeper) after.keeper c.close.result c.serve_connection-end.result
     (door.view old)
     (door.view new)
     (status_number c.status_of.result)

@@ -2,7 +2,7 @@ use Rattle.std.proofs.Common.{◌≡◌, ℕ, List, refl, sym, ap, subst, rules}
 use Rattle.std.specs.Prelude.{is_err}
 use Rattle.run_common.specs.Status.{status_number}
 use Rattle.mud_world.specs.View.{viewed}
-use Rattle.mud_world.specs.Boxed.{faults_of}
+use Rattle.mud_world.specs.Kept.{faults_of}
 use Rattle.mud_cli.specs.Serving.Serve.{ServesConnections, listening, clock_run}
 use Rattle.mud_cli.proofs.ServingLaws.Serves.{served_here, unbound}
 use Rattle.mud_cli.proofs.serving.serve.serve_desk.Goals as goal
@@ -15,7 +15,7 @@ returns-in_default-clause-serves g c = λ tables is.
     let new = c.bind.new.self in
     let desk = c.args.desk in
     let run = c.in_default.ensures in
-    unbound (goal.Keeper-dyn g) door.tells clock.tells tables desk.state is c.close.result (listening c.args.port c.args.count)
+    unbound g.K.Keeper door.tells clock.tells tables desk.state is c.close.result (listening c.args.port c.args.count)
     desk.keeper (clock.moments c.args.clock.now)
     (door.view old)
     (door.view new)
@@ -34,13 +34,13 @@ returns-clause-serves g c = λ tables is.
     let bound = c.in-Ok.ensures in
     let run = c.serve_connections-served.ensures in
     let ended : c.clock-1.given.0 ≡ after.clock.now = first_of (search rules, cc) in
-    subst (λ (moments : List ℕ). ServesConnections (goal.Keeper-dyn g) door.tells clock.tells tables (faults_of (goal.Keeper-dyn g) desk.keeper) c.close-2.result
+    subst (λ (moments : List ℕ). ServesConnections g.K.Keeper door.tells clock.tells tables (faults_of g.K.Keeper desk.keeper) c.close-2.result
     (listening c.args.port c.args.count) (clock_run (clock.moments c.args.clock.now) moments)
     (door.view old)
     (door.view new)
     (status_number c.status_of.result)) (sym (ap clock.moments ended))
-    (served_here (goal.Keeper-dyn g) door.tells clock.tells tables desk.state is c.close-2.result (listening c.args.port c.args.count)
-    after.desk.state (faults_of (goal.Keeper-dyn g) desk.keeper) after.desk.keeper (is_err c.serve_connections-served.result)
+    (served_here g.K.Keeper door.tells clock.tells tables desk.state is c.close-2.result (listening c.args.port c.args.count)
+    after.desk.state (faults_of g.K.Keeper desk.keeper) after.desk.keeper (is_err c.serve_connections-served.result)
     (clock.moments c.args.clock.now) (clock.moments after.clock.now)
     (door.view old)
     (door.view mid)

@@ -17,13 +17,13 @@ returns-in-Ok-new-clause-served g c =
     let desk = c.in-Ok.desk in
     let store = c.in-Ok.ensures in
     let run = c.serve_desk.ensures in
-    serves_opened (goal.Keeper-dyn g) door.tells clock.tells c.args.keeper c.serve_desk.result.1
+    serves_opened g.K.Keeper door.tells clock.tells c.args.keeper c.serve_desk.result.1
     (listening c.args.port c.args.count) (clock_run (clock.moments c.args.clock.now) (clock.moments c.serve_desk.new.clock))
     (door.view old)
     (door.view new)
     (status_number c.serve_desk.result.0)
-    (tables_of desk.state) desk.keeper store.tables store.sound store.steady store.same_box
-    (run.serves (tables_of desk.state) store.begun) run.told run.same_box
+    (tables_of desk.state) desk.keeper store.tables store.sound store.steady store.told
+    (run.serves (tables_of desk.state) store.begun) run.told
 
 pub returns-in-Err-new-clause-served : goal.returns-in-Err-new-clause-served
 returns-in-Err-new-clause-served g c =
@@ -32,14 +32,14 @@ returns-in-Err-new-clause-served g c =
     let old = c.args.door.now in
     let desk = c.in-Ok.desk in
     let store = c.in-Ok.ensures in
-    serves_none (goal.Keeper-dyn g) door.tells clock.tells c.args.keeper c.close.result
+    serves_none g.K.Keeper door.tells clock.tells c.args.keeper c.close.result
     (listening c.args.port c.args.count) (clock_run (clock.moments c.args.clock.now) (clock.moments c.args.clock.now))
     (door.view old)
     (door.view old)
     5
-    (memory_none (goal.Keeper-dyn g) c.args.keeper desk.keeper door.tells
+    (memory_none g.K.Keeper c.args.keeper desk.keeper door.tells
     (door.view old)
-    (tables_of desk.state) store.tables store.sound store.kept store.steady store.same_box c.close.result c.close.ensures)
+    (tables_of desk.state) store.tables store.sound store.kept store.steady store.told store.rests c.close.result c.close.ensures)
     refl
 
 pub returns-in-Err-clause-served : goal.returns-in-Err-clause-served
@@ -50,13 +50,13 @@ returns-in-Err-clause-served g c =
     let new = c.refuse_store.new.door in
     let store = c.in-Err.ensures in
     let run = c.refuse_store.ensures in
-    serves_none (goal.Keeper-dyn g) door.tells clock.tells c.args.keeper c.in-Err.keeper
+    serves_none g.K.Keeper door.tells clock.tells c.args.keeper c.in-Err.keeper
     (listening c.args.port c.args.count) (clock_run (clock.moments c.args.clock.now) (clock.moments c.args.clock.now))
     (door.view old)
     (door.view new)
     (status_number c.refuse_store.result)
-    (refused_none (goal.Keeper-dyn g) c.args.keeper c.in-Err.keeper door.tells (door.view old) (door.view new) (status_number c.refuse_store.result)
-    (runs_refused (goal.Keeper-dyn g) c.args.keeper c.in-Err.keeper door.tells (door.view old) (door.view new) (status_number c.refuse_store.result)
-    c.in-Err.fault store.bad store.left store.cause store.handed_back
+    (refused_none g.K.Keeper c.args.keeper c.in-Err.keeper door.tells (door.view old) (door.view new) (status_number c.refuse_store.result)
+    (runs_refused g.K.Keeper c.args.keeper c.in-Err.keeper door.tells (door.view old) (door.view new) (status_number c.refuse_store.result)
+    c.in-Err.fault store.bad store.left store.cause store.untold
     run.statuses run.fault run.steady run.done run.part (λ call. ap (λ d. (door.view d).state) (run.untouched call)) run.turns run.reads))
     refl

@@ -3,7 +3,7 @@ use Rattle.std.specs.Prelude.{max}
 use Rattle.mud_world.specs.declared.item.Put.{Put}
 use Rattle.mud_world.specs.Causes.{Counts}
 use Rattle.mud_world.specs.Items.{put_all}
-use Rattle.mud_world.specs.Boxed.{faults_of, kept_items}
+use Rattle.mud_world.specs.Kept.{faults_of, kept_items}
 use Rattle.desk_model.specs.declared.reply.Outcome.{Outcome}
 use Rattle.desk_model.specs.declared.reply.Reply.{Reply}
 use Rattle.desk_model.specs.declared.reply.Reply.TheVariants.{Done}
@@ -11,7 +11,7 @@ use Rattle.desk_model.specs.Items.{items_of}
 use Rattle.desk_model.specs.Sessions.{AllowedReply, is_of_keeper}
 use Rattle.mud_desk.specs.DeskState.{tables_of, session_of}
 use Rattle.mud_desk.proofs.Sessions.{reaches, done, refused, failed, wanted, never_of_keeper}
-use Rattle.mud_desk.proofs.Boxes.{kept_after}
+use Rattle.mud_desk.proofs.Keepers.{kept_after}
 use Rattle.mud_desk.proofs.Stays.{stays_untold, stays_unput}
 use Rattle.mud_desk.proofs.Payments.{paid, planned_only, undone}
 use Rattle.mud_desk.proofs.desk.Desk.command.Goals as goal
@@ -25,7 +25,7 @@ returns-in-Err-clause-answer g c =
 
 pub returns-in-Err-clause-cause : goal.returns-in-Err-clause-cause
 returns-in-Err-clause-cause g c =
-    let count = faults_of (goal.Keeper-dyn g) c.args.self.now.keeper in
+    let count = faults_of g.K.Keeper c.args.self.now.keeper in
     subst (λ (r : Reply). Counts (is_of_keeper r) count count) (sym c.into_reply.ensures) (never_of_keeper c.in-Err.refusal count)
 
 pub returns-in-Err-clause-compiled : goal.returns-in-Err-clause-compiled
@@ -64,17 +64,17 @@ returns-clause-answer g c =
     (done before c.plan.new.self c.args.command c.later-now.result c.in-Ok.ensures.same c.in-Ok.ensures.flows c.args.now is c.commit.new.self c.in-Ok.change c.in-Ok.ensures.ok c.commit.ensures.desk c.commit.ensures.flows c.commit.ensures.moment)
 
 pub returns-in-Err-clause-stays : goal.returns-in-Err-clause-stays
-returns-in-Err-clause-stays g c = stays_untold (goal.Keeper-dyn g) refl c.in-Err.ensures.same c.requires.kept
+returns-in-Err-clause-stays g c = stays_untold g.K.Keeper refl c.in-Err.ensures.same c.requires.kept
 
 pub returns-in-Err-Failed-clause-stays : goal.returns-in-Err-Failed-clause-stays
 returns-in-Err-Failed-clause-stays g c =
     let kept = c.in-Err-Failed.ensures in
-    stays_unput (goal.Keeper-dyn g) kept.opened kept.told kept.err (record { object = kept.object; pointer = kept.pointer }) c.in-Ok.ensures.same c.requires.kept
+    stays_unput g.K.Keeper c.batch.result.now kept.tried kept.opened kept.told kept.err kept.crash c.in-Ok.ensures.same c.requires.kept
 
 pub returns-in-Err-Memory-clause-stays : goal.returns-in-Err-Memory-clause-stays
 returns-in-Err-Memory-clause-stays g c =
     let kept = c.in-Err-Memory.ensures in
-    stays_unput (goal.Keeper-dyn g) kept.opened kept.told kept.err (record { object = kept.object; pointer = kept.pointer }) c.in-Ok.ensures.same c.requires.kept
+    stays_unput g.K.Keeper c.batch.result.now kept.tried kept.opened kept.told kept.err kept.crash c.in-Ok.ensures.same c.requires.kept
 
 pub returns-clause-stays : goal.returns-clause-stays
 returns-clause-stays g c =
@@ -83,11 +83,12 @@ returns-clause-stays g c =
     let put : put_all (items_of (tables_of before)) c.in-Ok.change.batch ≡ items_of (tables_of c.commit.new.self) =
     reaches before c.plan.new.self c.args.command c.later-now.result c.in-Ok.ensures.same c.in-Ok.change c.in-Ok.ensures.ok c.in-Ok.ensures.sound c.command_fits.ensures c.requires.asked ∙ ap items_of (sym c.commit.ensures.desk) in
     record {
-      kept = kept_after (goal.Keeper-dyn g) c.args.self.now.keeper c.keep_batch.new.keeper (tables_of before) (tables_of c.commit.new.self) c.in-Ok.change.batch c.requires.kept kept.opened kept.told
-          (λ tells. kept.ok tells ∙ ap (put_all (kept_items (goal.Keeper-dyn g) c.args.self.now.keeper)) c.batch.ensures)
-          put;
+      kept = kept_after g.K.Keeper c.args.self.now.keeper c.keep_batch.new.keeper (tables_of before) (tables_of c.commit.new.self) c.in-Ok.change.batch c.requires.kept kept.opened kept.told
+          (λ tells. kept.ok tells ∙ ap (put_all (kept_items g.K.Keeper c.args.self.now.keeper)) c.batch.ensures)
+          put
+          (λ none. kept.none (c.batch.ensures ∙ none))
+          (λ some tells. kept.rests tells (subst (λ (puts : List Put). puts ≢ []) (sym c.batch.ensures) some));
       told = kept.told;
-      same_box = record { object = kept.object; pointer = kept.pointer };
     }
 
 pub returns-clause-steps : goal.returns-clause-steps

@@ -3,4 +3,4 @@ use Rattle.mud_desk.proofs.Stays.{stays_raised}
 use Rattle.mud_desk.proofs.desk.Desk.raise.Goals as goal
 
 pub returns-clause-stays : goal.returns-clause-stays
-returns-clause-stays g c = stays_raised (goal.Keeper-dyn g) _ refl c.raise.ensures c.requires.kept
+returns-clause-stays g c = stays_raised g.K.Keeper _ refl c.raise.ensures c.requires.kept

@@ -1,12 +1,12 @@
 use Rattle.std.proofs.Common.{refl, sym, ◌∙◌}
 use Rattle.std.proofs.lemmas.Result.{on_ok_weaker}
-use Rattle.mud_world.specs.Boxed.{kept_items}
+use Rattle.mud_world.specs.Kept.{kept_items}
 use Rattle.base_rows.proofs.SortableLaws.{same_sort_key_exact}
 use Rattle.mud_desk.proofs.ItemsLaws.Anew.{not_put, put_there}
 use Rattle.mud_desk.proofs.items.opening.put_anew.Goals as goal
 
 pub returns-then-eq-clause-ok : goal.returns-then-eq-clause-ok
-returns-then-eq-clause-ok g c tells = not_put c.args.item.now c.args.anew c.requires.octets c.requires.anew (kept_items (goal.Keeper-dyn g) c.args.keeper.now) (kept_items (goal.Keeper-dyn g) c.args.keeper.now) (sym c.octets.ensures ∙ same_sort_key_exact c.octets.result.now c.octets-2.result.now (sym c.eq.ensures ∙ c.if-eq.true) ∙ c.octets-2.ensures) refl
+returns-then-eq-clause-ok g c tells = not_put c.args.item.now c.args.anew c.requires.octets c.requires.anew (kept_items g.K.Keeper c.args.keeper.now) (kept_items g.K.Keeper c.args.keeper.now) (sym c.octets.ensures ∙ same_sort_key_exact c.octets.result.now c.octets-2.result.now (sym c.eq.ensures ∙ c.if-eq.true) ∙ c.octets-2.ensures) refl
 
 pub returns-clause-ok : goal.returns-clause-ok
-returns-clause-ok g c tells = on_ok_weaker c.keep.result (put_there c.args.item.now c.args.anew c.requires.octets c.requires.anew (kept_items (goal.Keeper-dyn g) c.args.keeper.now) (kept_items (goal.Keeper-dyn g) c.keep.new.keeper)) (c.keep.ensures.ok tells)
+returns-clause-ok g c tells = on_ok_weaker c.apply.result (put_there c.args.item.now c.args.anew c.requires.octets c.requires.anew (kept_items g.K.Keeper c.args.keeper.now) (kept_items g.K.Keeper c.apply.new.self)) (c.apply.ensures.ok tells)

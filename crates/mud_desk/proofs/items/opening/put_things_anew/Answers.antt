@@ -1,5 +1,5 @@
 use Rattle.std.proofs.Common.{IsTrue, refl, sym, subst, ◌∙◌}
-use Rattle.mud_world.specs.Boxed.{kept_items}
+use Rattle.mud_world.specs.Kept.{kept_items}
 use Rattle.mud_desk.specs.Items.Loaded.{loaded_desk}
 use Rattle.mud_desk.proofs.ItemsLaws.Anew.{things_fit, thing_anew, all_put, first_anew, one_anew, partly_anew, octets_at}
 use Rattle.mud_desk.proofs.items.opening.put_things_anew.Goals as goal
@@ -8,18 +8,17 @@ use Rattle.base_rows.proofs.Results.{always_on_err}
 pub loop-index-init : goal.loop-index-init
 loop-index-init g c = record {
   told = λ t. t;
-  items = λ t. first_anew c.args.list.now (kept_items (goal.Keeper-dyn g) c.args.keeper.now) (c.requires.items t);
+  items = λ t. first_anew c.args.list.now (kept_items g.K.Keeper c.args.keeper.now) (c.requires.items t);
   ordered = c.requires.ordered;
+  rests = c.requires.rests;
   opened = c.requires.opened;
   steady = refl;
-  object = refl;
-  at = refl;
 }
 
 pub returns-in_err-anew-clause-err : goal.returns-in_err-anew-clause-err
 returns-in_err-anew-clause-err g c t =
     always_on_err c.from_residual.result
-    (partly_anew c.args.list.now (kept_items (goal.Keeper-dyn g) c.loop-index.keeper) (loaded_desk c.args.loaded.now) c.bodies_fit.ensures c.requires.read c.loop-index.index (c.loop-index.invariant.items t))
+    (partly_anew c.args.list.now (kept_items g.K.Keeper c.loop-index.keeper) (loaded_desk c.args.loaded.now) c.bodies_fit.ensures c.requires.read c.loop-index.index (c.loop-index.invariant.items t))
 
 pub bounds-list-index : goal.bounds-list-index
 bounds-list-index g c = things_fit c.args.loaded.now c.args.list.now c.bodies_fit.ensures c.requires.read c.things-index-end.result.now c.things-index-end.ensures.things c.loop-index.index c.loop-index-test.true
@@ -37,19 +36,18 @@ put_anew-requires-clause-octets g c =
 pub returns-in_err-put_anew-clause-err : goal.returns-in_err-put_anew-clause-err
 returns-in_err-put_anew-clause-err g c t =
     always_on_err c.from_residual-in_err-put_anew.result
-    (partly_anew c.args.list.now (kept_items (goal.Keeper-dyn g) c.put_anew.new.keeper) (loaded_desk c.args.loaded.now) c.bodies_fit.ensures c.requires.read c.loop-index.index (c.in_err-put_anew.ensures.err t ∙ c.loop-index.invariant.items (c.in_err-put_anew.ensures.told t)))
+    (partly_anew c.args.list.now (kept_items g.K.Keeper c.put_anew.new.keeper) (loaded_desk c.args.loaded.now) c.bodies_fit.ensures c.requires.read c.loop-index.index (c.in_err-put_anew.ensures.err t ∙ c.loop-index.invariant.items (c.in_err-put_anew.ensures.told t)))
 
 pub loop-index-preserved : goal.loop-index-preserved
 loop-index-preserved g c = record {
   told = λ t. c.loop-index.invariant.told (c.in_ok-put_anew.ensures.told t);
-  items = λ t. one_anew c.args.list.now c.loop-index.index c.index-list-index.result (kept_items (goal.Keeper-dyn g) c.loop-index.keeper) (kept_items (goal.Keeper-dyn g) c.put_anew.new.keeper) (things_fit c.args.loaded.now c.args.list.now c.bodies_fit.ensures c.requires.read c.things-index-end.result.now c.things-index-end.ensures.things c.loop-index.index c.loop-index-test.true) c.index-list-index.is (c.loop-index.invariant.items (c.in_ok-put_anew.ensures.told t)) (c.loop-index.invariant.ordered (c.in_ok-put_anew.ensures.told t)) (c.in_ok-put_anew.ensures.ok t);
+  items = λ t. one_anew c.args.list.now c.loop-index.index c.index-list-index.result (kept_items g.K.Keeper c.loop-index.keeper) (kept_items g.K.Keeper c.put_anew.new.keeper) (things_fit c.args.loaded.now c.args.list.now c.bodies_fit.ensures c.requires.read c.things-index-end.result.now c.things-index-end.ensures.things c.loop-index.index c.loop-index-test.true) c.index-list-index.is (c.loop-index.invariant.items (c.in_ok-put_anew.ensures.told t)) (c.loop-index.invariant.ordered (c.in_ok-put_anew.ensures.told t)) (c.in_ok-put_anew.ensures.ok t);
   ordered = λ t. c.in_ok-put_anew.ensures.ordered t (c.loop-index.invariant.ordered (c.in_ok-put_anew.ensures.told t));
+  rests = λ t. c.in_ok-put_anew.ensures.rests t (c.loop-index.invariant.rests (c.in_ok-put_anew.ensures.told t));
   opened = subst IsTrue (sym c.in_ok-put_anew.ensures.opened) c.loop-index.invariant.opened;
   steady = c.in_ok-put_anew.ensures.cause.steady refl ∙ c.loop-index.invariant.steady;
-  object = c.in_ok-put_anew.ensures.object ∙ c.loop-index.invariant.object;
-  at = c.in_ok-put_anew.ensures.pointer ∙ c.loop-index.invariant.at;
 }
 
 pub returns-clause-ok : goal.returns-clause-ok
 returns-clause-ok g c t =
-    all_put c.args.loaded.now c.args.list.now c.bodies_fit.ensures c.requires.read c.things-index-end.result.now c.things-index-end.ensures.things c.loop-index.index c.loop-index-test.false c.loop-index.auto.index-end (kept_items (goal.Keeper-dyn g) c.loop-index.keeper) (c.loop-index.invariant.items t)
+    all_put c.args.loaded.now c.args.list.now c.bodies_fit.ensures c.requires.read c.things-index-end.result.now c.things-index-end.ensures.things c.loop-index.index c.loop-index-test.false c.loop-index.auto.index-end (kept_items g.K.Keeper c.loop-index.keeper) (c.loop-index.invariant.items t)

@@ -1,5 +1,5 @@
 use Rattle.std.proofs.Common.{rules, ◌∙◌, ap, Some, None}
-use Rattle.mud_world.specs.Boxed.{faults_of}
+use Rattle.mud_world.specs.Kept.{faults_of}
 use Rattle.pcap_read.specs.Captured.{packet_of}
 use Rattle.run_common.specs.Status.{status_number}
 use Rattle.mud_desk.specs.DeskState.{session_of}
@@ -13,7 +13,7 @@ use Rattle.run_packets.proofs.snoop.capture.snoop_packets.Goals as goal
 pub returns-in-Ended-clause-done : goal.returns-in-Ended-clause-done
 returns-in-Ended-clause-done g c = λ first tells start which.
     let door = g.D.Door in
-    let members = goal.Keeper-dyn g in
+    let members = g.K.Keeper in
     let now = c.packets.invariant.snooped first tells start in
     let all = c.in-Ended.ensures.led (packets_of now.entries) (lines_of now.entries) first tells now.done in
     let end = c.end_capture.ensures in
@@ -27,7 +27,7 @@ returns-in-Ended-clause-done g c = λ first tells start which.
 pub returns-in-Ended-clause-part : goal.returns-in-Ended-clause-part
 returns-in-Ended-clause-part g c = λ first tells start which.
     let door = g.D.Door in
-    let members = goal.Keeper-dyn g in
+    let members = g.K.Keeper in
     let now = c.packets.invariant.snooped first tells start in
     let all = c.in-Ended.ensures.led (packets_of now.entries) (lines_of now.entries) first tells now.done in
     let end = c.end_capture.ensures in
@@ -40,7 +40,7 @@ returns-in-Ended-clause-part g c = λ first tells start which.
 pub returns-in-Broken-clause-done : goal.returns-in-Broken-clause-done
 returns-in-Broken-clause-done g c = λ first tells start which.
     let door = g.D.Door in
-    let members = goal.Keeper-dyn g in
+    let members = g.K.Keeper in
     let now = c.packets.invariant.snooped first tells start in
     let all = c.in-Broken.ensures.led (packets_of now.entries) (lines_of now.entries) first tells now.done in
     let end = c.end_capture-in-Broken.ensures in
@@ -55,7 +55,7 @@ returns-in-Broken-clause-done g c = λ first tells start which.
 pub returns-in-Broken-clause-part : goal.returns-in-Broken-clause-part
 returns-in-Broken-clause-part g c = λ first tells start which.
     let door = g.D.Door in
-    let members = goal.Keeper-dyn g in
+    let members = g.K.Keeper in
     let now = c.packets.invariant.snooped first tells start in
     let all = c.in-Broken.ensures.led (packets_of now.entries) (lines_of now.entries) first tells now.done in
     let end = c.end_capture-in-Broken.ensures in
@@ -69,7 +69,7 @@ returns-in-Broken-clause-part g c = λ first tells start which.
 pub returns-in-Failed-clause-part : goal.returns-in-Failed-clause-part
 returns-in-Failed-clause-part g c = λ first tells start which.
     let door = g.D.Door in
-    let members = goal.Keeper-dyn g in
+    let members = g.K.Keeper in
     let now = c.packets.invariant.snooped first tells start in
     part_at_failure (session_of c.args.desk.now.state) first (faults_of members c.args.desk.now.keeper) (session_of c.packets.desk.state) (door.view c.packets.door).state (faults_of members c.packets.desk.keeper) c.packets.reader c.packets.lines c.packets.failed now
     (door.view c.go_on.new.door).state (c.in-Failed.ensures.led (packets_of now.entries) (lines_of now.entries) first tells now.done)
@@ -77,7 +77,7 @@ returns-in-Failed-clause-part g c = λ first tells start which.
 pub returns-in-Failed-clause-taken : goal.returns-in-Failed-clause-taken
 returns-in-Failed-clause-taken g c = λ first tells start changed.
     let door = g.D.Door in
-    let members = goal.Keeper-dyn g in
+    let members = g.K.Keeper in
     let now = c.packets.invariant.snooped first tells start in
     taken_at_failure (session_of c.args.desk.now.state) first (faults_of members c.args.desk.now.keeper) (session_of c.packets.desk.state) (door.view c.packets.door).state (faults_of members c.packets.desk.keeper) c.packets.reader c.packets.lines c.packets.failed now
     (door.view c.go_on.new.door).state
@@ -86,7 +86,7 @@ returns-in-Failed-clause-taken g c = λ first tells start changed.
 pub returns-in-Err-clause-part : goal.returns-in-Err-clause-part
 returns-in-Err-clause-part g c = λ first tells start which.
     let door = g.D.Door in
-    let members = goal.Keeper-dyn g in
+    let members = g.K.Keeper in
     let now = c.packets.invariant.snooped first tells start in
     part_at_packet (session_of c.args.desk.now.state) first (faults_of members c.args.desk.now.keeper) (session_of c.packets.desk.state) (door.view c.packets.door).state (faults_of members c.packets.desk.keeper) c.packets.reader c.packets.lines c.packets.failed now
     c.go_on.new.reader (door.view c.go_on.new.door).state c.go_on.new.lines (packet_of c.packet.result) (session_of c.snoop_packet.new.desk.state) (faults_of members c.snoop_packet.new.desk.keeper)
@@ -95,7 +95,7 @@ returns-in-Err-clause-part g c = λ first tells start which.
 pub packets-preserved : goal.packets-preserved
 packets-preserved g c =
     let door = g.D.Door in
-    let members = goal.Keeper-dyn g in
+    let members = g.K.Keeper in
     record {
       stays = stays_further members c.packets.invariant.stays c.in-Ok.ensures.stays;
       snooped = λ first tells start.
@@ -113,4 +113,4 @@ packets-preserved g c =
     }
 
 pub returns-in-Err-clause-stays : goal.returns-in-Err-clause-stays
-returns-in-Err-clause-stays g c = stays_further (goal.Keeper-dyn g) c.packets.invariant.stays c.in-Err.ensures.stays
+returns-in-Err-clause-stays g c = stays_further g.K.Keeper c.packets.invariant.stays c.in-Err.ensures.stays

@@ -1,5 +1,5 @@
 use Rattle.std.proofs.Common.{◌≡◌, [], false}
-use Rattle.mud_world.specs.Boxed.{faults_of}
+use Rattle.mud_world.specs.Kept.{faults_of}
 use Rattle.mud_world.specs.Causes.{Counts}
 use Rattle.mud_world.specs.Door.{DoorState}
 use Rattle.run_captures.specs.Reading.{is_broken, most_to_come}
@@ -12,7 +12,7 @@ use Rattle.run_packets.proofs.snoop.capture.snoop_packets.Given as goal
 abbrev pub invariant-packets : goal.invariant-packets
 invariant-packets g l =
     let door = g.D.Door in
-    let members = goal.Keeper-dyn g in
+    let members = g.K.Keeper in
     record {
       stays : StaysKept members l.initial.desk l.desk;
       snooped : (first : DoorState) → door.tells

@@ -13,11 +13,11 @@ returns-in-Ok g c =
     let after = c.snoop_capture-status.new.desk in
     let store = c.in-Ok.ensures in
     let run = c.snoop_capture-status.ensures in
-    snooped_run (goal.Keeper-dyn g) c.args.keeper door.tells
+    snooped_run g.K.Keeper c.args.keeper door.tells
     (door.view old)
     (door.view new)
     (status_number c.snoop_capture-status.result)
-    desk after store.tables store.sound store.begun store.steady store.same_box
+    desk after store.tables store.sound store.begun store.steady store.told
     run.stays c.lists_are_sound.ensures run.statuses run.fault run.steady run.keeper run.keeper_steady
     run.done run.part run.taken run.turns
     c.close.result c.close.ensures
@@ -29,7 +29,7 @@ returns-in-Err g c =
     let new = c.refuse_store.new.door in
     let store = c.in-Err.ensures in
     let run = c.refuse_store.ensures in
-    refused_snoop (goal.Keeper-dyn g) c.args.keeper c.in-Err.keeper door.tells (door.view old) (door.view new) (status_number c.refuse_store.result)
-    (runs_refused (goal.Keeper-dyn g) c.args.keeper c.in-Err.keeper door.tells (door.view old) (door.view new) (status_number c.refuse_store.result)
-    c.in-Err.fault store.bad store.left store.cause store.handed_back
+    refused_snoop g.K.Keeper c.args.keeper c.in-Err.keeper door.tells (door.view old) (door.view new) (status_number c.refuse_store.result)
+    (runs_refused g.K.Keeper c.args.keeper c.in-Err.keeper door.tells (door.view old) (door.view new) (status_number c.refuse_store.result)
+    c.in-Err.fault store.bad store.left store.cause store.untold
     run.statuses run.fault run.steady run.done run.part (λ call. ap (λ d. (door.view d).state) (run.untouched call)) run.turns run.reads)

@@ -1,6 +1,6 @@
 -- What the buckets hold, one after the other.
 use Rattle.std.proofs.Common.{◌≡◌, ℕ, zero, suc, ◌<◌, ◌≤◌, Bool, true, false, cond, List, [], ◌∷◌, ◌++◌, length, set, get_or, Option, Some, Result, Ok, Err, refl, sym, ap, subst, ◌∙◌, arith, append-nil}
-use Rattle.std.specs.Prelude.{filter, nat_lt}
+use Rattle.std.specs.Prelude.{filter}
 use Rattle.std.specs.List.{AllByRecursion, insert, slice_get}
 use Rattle.std.specs.declared.cmp.Ordering.TheVariants.{Less}
 use Rattle.std.proofs.lemmas.Option.{slice_get_read}
@@ -18,7 +18,7 @@ use Rattle.acl_model.specs.declared.binding.Binding.{Binding}
 use Rattle.acl_model.specs.SortKeys.{key_kind, key_text, text_sort_key, member_sort_key, binding_sort_key}
 use Rattle.acl_buckets.specs.declared.binding_parts.Bucket.{Bucket}
 use Rattle.acl_buckets.specs.BindingBuckets.{room_of_key, bindings_of_key}
-use Rattle.acl_buckets.specs.BindingParts.{bucket_sort_key, nothing, part_of, part_at, joined, room_in, IsOwn, AreBucketed, AreKept, AreRoomier}
+use Rattle.acl_buckets.specs.BindingParts.{bucket_sort_key, has_rows, nothing, part_of, part_at, joined, room_in, IsOwn, AreBucketed, AreKept, AreRoomier}
 use Rattle.acl_buckets.proofs.KeyLaws.{at_front, key_less}
 
 -- the sort keys of bindings tell whether they are of the key with this sort key
@@ -268,9 +268,6 @@ set_part sort_key ss i x s bucketed found is key =
     ∙ ap (λ (b : Bool). cond b s.bindings (part_at sort_key ss)) (ap (λ (p : List ℕ). same_sort_key p sort_key) here ∙ same_sort_key_itself sort_key)
 
 -- ---- Without the empty buckets
-
-abbrev pub has_rows : Bucket → Bool
-has_rows s = nat_lt 0 (length s.bindings.rows)
 
 clear_by : (s : Bucket) (ss kept : List Bucket) → joined kept ≡ joined ss → (b : Bool) → has_rows s ≡ b → joined (cond b (s ∷ kept) kept) ≡ s.bindings.rows ++ joined ss
 unfolding joined

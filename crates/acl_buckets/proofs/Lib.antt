@@ -1,5 +1,7 @@
 pub mod Beside
 pub mod BindingPartLaws
+pub mod KeysCleared
+pub mod ClearLaws
 pub mod EditLaws
 pub mod IndexLaws
 pub mod KeyLaws

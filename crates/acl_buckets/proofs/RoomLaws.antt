@@ -225,7 +225,7 @@ all_read P [] i x all lt is = absurd (omega arith)
 all_read P (y ∷ ys) zero x all lt is = subst P (sym is) all.0
 all_read P (y ∷ ys) (suc i) x all lt is = all_read P ys i x all.1 (omega arith) is
 
-row_number_is : (r : Row) → row_number r ≡ bucket_number r.owner r.side
+pub row_number_is : (r : Row) → row_number r ≡ bucket_number r.owner r.side
 unfolding row_number
 row_number_is r = refl
 

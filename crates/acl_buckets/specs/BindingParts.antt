@@ -1,5 +1,5 @@
 -- The buckets, one after the other. What stands here is used by contracts inside the crate alone.
-use Rattle.std.specs.Prelude.{◌≡◌, ℕ, ◌+◌, ◌≤◌, List, [], ◌∷◌, ◌++◌, Option, Some, None}
+use Rattle.std.specs.Prelude.{◌≡◌, ℕ, ◌+◌, ◌≤◌, nat_lt, Bool, List, [], ◌∷◌, ◌++◌, length, Option, Some, None}
 use Rattle.std.specs.List.{AllByRecursion}
 use Rattle.base_rows.specs.Sortable.{SortKeysAscend, RowsAndRoom, row_at, index_in, set_row}
 use Rattle.base_rows.specs.declared.edit.Edit.{Edit}
@@ -14,6 +14,10 @@ use Rattle.acl_buckets.specs.BindingBuckets.{KeyRoom}
 -- a bucket stands at the sort key of its key
 unfoldable pub bucket_sort_key : Bucket → List ℕ
 bucket_sort_key s = member_sort_key s.key
+
+-- there is a binding in the bucket
+abbrev pub has_rows : Bucket → Bool
+has_rows s = nat_lt 0 (length s.bindings.rows)
 
 -- where there is no bucket, there are no bindings, and there is no room
 abbrev pub nothing : RowsAndRoom Binding

@@ -11,7 +11,7 @@ use Rattle.acl_rows.specs.declared.row.Owner.{Owner}
 use Rattle.acl_rows.specs.declared.row.Owner.TheVariants.{Default}
 use Rattle.acl_rows.specs.declared.row.Row.{Row}
 use Rattle.acl_rows.specs.SortKeys.{row_sort_key}
-use Rattle.acl_rows.specs.ByAddress.{AddrRoom, SideRows, room_at}
+use Rattle.acl_rows.specs.ByAddress.{AddrRoom, SideRows, room_at, AreAddressesCleared}
 use Rattle.acl_buckets.specs.RowBuckets.{bucket_number, edits_of_peer, AreFoundBeside, HasRoom}
 
 -- ---- Buckets
@@ -24,7 +24,7 @@ Parts = List SideRows
 
 -- where there is no bucket, there are no rows, and there is no room
 abbrev pub nothing : SideRows
-nothing = record { owner = Default; side = From; rows = []; room = [] }
+nothing = record { owner = Default; side = From; rows = []; room = []; limit = 16 }
 
 unfoldable pub part_at : Parts → ℕ → SideRows
 part_at parts k = slice_index_or parts k nothing
@@ -57,6 +57,10 @@ pub record AreKept (old new : Parts) : Type 0 where
   pub sorted : AreSorted new
   pub rows : joined new ≡ joined old
   pub len : length old ≤ length new
+
+-- in the bucket of the edit, the addresses without rows go where there are many
+abbrev pub IsClearedAt : Parts → Parts → Edit Row → Type 0
+IsClearedAt old new edit = AreAddressesCleared (part_at old (row_number edit.row)) (part_at new (row_number edit.row))
 
 -- all rows stay, and there may be more room
 pub record AreRoomier (old new : Parts) : Type 0 where

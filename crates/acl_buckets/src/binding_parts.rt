@@ -5,7 +5,8 @@ ghost use Rattle.base_rows.specs.Edits.{edited};
 ghost use Rattle.acl_model.specs.SortKeys.{text_sort_key, member_sort_key, binding_sort_key};
 ghost use Rattle.acl_model.specs.declared.binding.MemberKey.{MemberKey as KeyValue};
 ghost use Rattle.acl_buckets.specs.BindingBuckets.{HasRoomByKey, edits_of_key};
-ghost use Rattle.acl_buckets.specs.BindingParts.{bucket_sort_key, part_at, joined, room_in, AreBucketed, AreRoomier, AreFoundIn, IsEdited};
+ghost use Rattle.acl_rows.specs.ByAddress.{IsCleared};
+ghost use Rattle.acl_buckets.specs.BindingParts.{bucket_sort_key, has_rows, part_at, joined, room_in, AreBucketed, AreRoomier, AreFoundIn, IsEdited};
 
 use acl_model::{Binding, KeyText, MemberKey, order_keys, same_key};
 use base_rows::{Edit, PrefixOf, SortedRows, Steps, make_edit};
@@ -76,6 +77,7 @@ pub(crate) fn clear_buckets(buckets: &mut Vec<Bucket>, limit: usize) -> usize
     requires { AreBucketed buckets.old.items }
     ensures rows { joined buckets.new.items ≡ joined buckets.old.items }
     ensures bucketed { AreBucketed buckets.new.items }
+    ensures cleared { IsCleared has_rows buckets.old.items buckets.new.items limit result }
 {
     if buckets.len() < limit {
         return limit;
@@ -88,6 +90,7 @@ pub(crate) fn clear_buckets(buckets: &mut Vec<Bucket>, limit: usize) -> usize
 fn add_bucket(alloc: Global, buckets: &mut Vec<Bucket>, key: &MemberKey) -> Result<usize, Memory>
     requires { AreBucketed buckets.old.items }
     ensures kept { AreRoomier buckets.old.items buckets.new.items }
+    ensures most { length buckets.new.items ≤ length buckets.old.items + 1 }
     ensures ok { IfOk result (λ index. index_in bucket_sort_key (member_sort_key key.now) buckets.new.items ≡ Ok index) }
 {
     match bucket_of(buckets.as_slice(), key.key_text()) {
@@ -110,6 +113,7 @@ fn reserve_bucket(
 ) -> Result<(), Memory>
     requires { AreBucketed buckets.old.items }
     ensures kept { AreRoomier buckets.old.items buckets.new.items }
+    ensures most { length buckets.new.items ≤ length buckets.old.items + 1 }
     ensures ok { OnOk result (more ≤ (part_at (member_sort_key key.now) buckets.new.items).room) }
 {
     let index = add_bucket(alloc, buckets, key)?;
@@ -139,6 +143,7 @@ fn reserve_key(
     requires done { (k : KeyValue) → option_copied last ≡ Some k
         → length (edits_of_key k edits.now.rows) ≤ (part_at (member_sort_key k) buckets.old.items).room }
     ensures kept { AreRoomier buckets.old.items buckets.new.items }
+    ensures most { length buckets.new.items ≤ length buckets.old.items + 1 }
     ensures ok { OnOk result (length (edits_of_key key.now edits.now.rows) ≤ (part_at (member_sort_key key.now) buckets.new.items).room) }
 {
     if is_last(last, key) {
@@ -157,6 +162,7 @@ pub(crate) fn make_room(
 ) -> Result<(), Memory>
     requires { AreBucketed buckets.old.items }
     ensures kept { AreRoomier buckets.old.items buckets.new.items }
+    ensures most { length buckets.new.items ≤ length buckets.old.items + length edits.now.rows }
     ensures ok { OnOk result (HasRoomByKey edits.now.rows (room_in buckets.new.items)) }
 {
     let list = edits.rows();

@@ -4,7 +4,7 @@ ghost use Rattle.base_rows.specs.Addresses.{addr_sort_key};
 ghost use Rattle.base_rows.specs.Sortable.{SortKeysAscend, row_at, rows_under};
 ghost use Rattle.base_rows.specs.Edits.{edited};
 ghost use Rattle.acl_model.specs.SortKeys.{text_sort_key, binding_sort_key};
-ghost use Rattle.acl_buckets.specs.BindingBuckets.{HasRoomByKey, AreFoundByKey, bindings_of_key, index_by_key};
+ghost use Rattle.acl_buckets.specs.BindingBuckets.{HasRoomByKey, AreFoundByKey, AreKeysCleared, bindings_of_key, index_by_key};
 
 use crate::binding_parts::{Bucket, bindings_at, clear_buckets, make_all, make_room};
 use acl_model::{Binding, BoundKey, KeyText};
@@ -35,7 +35,7 @@ impl Model for BindingBuckets {
 
     ghost Value = { KeptBindings };
 
-    ghost view = { λ s. record { rows = joined s.buckets.items; room = room_in s.buckets.items } };
+    ghost view = { λ s. record { rows = joined s.buckets.items; room = room_in s.buckets.items; limit = s.limit } };
 
     ghost invariant = { λ s. AreKept s.buckets.items s.none.rows };
 }
@@ -44,6 +44,8 @@ impl BindingBuckets {
     /// No bindings, and no room. It takes no memory.
     pub fn new(alloc: Global) -> BindingBuckets
         ensures rows { result.rows ≡ [] }
+        ensures room { result.room ≡ [] }
+        ensures limit { result.limit ≡ 16 }
     {
         BindingBuckets {
             buckets: Vec::new(alloc),
@@ -120,6 +122,7 @@ impl BindingBuckets {
         edits: &SortedRows<Edit<Binding>>,
     ) -> Result<(), Memory>
         ensures rows { self.new.rows ≡ self.old.rows }
+        ensures cleared { AreKeysCleared edits.now.rows self.old self.new }
         ensures ok { OnOk result (HasRoomByKey edits.now.rows self.new.room) }
     {
         self.limit = clear_buckets(&mut self.buckets, self.limit);
@@ -132,6 +135,7 @@ impl BindingBuckets {
     pub fn make_edits<L: Ledger>(&mut self, edits: SortedRows<Edit<Binding>>, steps: &mut Steps<L>)
         requires room { HasRoomByKey edits.rows self.old.room }
         requires found { AreFoundByKey self.old.rows edits.rows }
+        ensures limit { self.new.limit ≡ self.old.limit }
         ensures rows { self.new.rows ≡ edited binding_sort_key edits.rows self.old.rows }
         ensures counted { steps.new ≡ steps.old + length edits.rows }
     {

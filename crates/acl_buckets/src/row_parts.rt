@@ -7,7 +7,7 @@ ghost use Rattle.acl_rows.specs.declared.row.Peer.{Peer as PeerValue};
 ghost use Rattle.acl_rows.specs.SortKeys.{peer_sort_key, row_sort_key};
 ghost use Rattle.acl_rows.specs.ByAddress.{IsEditAt};
 ghost use Rattle.acl_buckets.specs.RowBuckets.{bucket_number, edits_of_peer, AreFoundBeside, HasRoom};
-ghost use Rattle.acl_buckets.specs.RowParts.{part_at, joined, room_in, AreSorted, AreKept, AreRoomier, HasRoomFor, HaveBuckets, AreLeft};
+ghost use Rattle.acl_buckets.specs.RowParts.{part_at, joined, room_in, AreSorted, AreKept, AreRoomier, IsClearedAt, HasRoomFor, HaveBuckets, AreLeft};
 
 use acl_rows::{AddressRows, Owner, Peer, Row};
 use base_rows::{Edit, PrefixOf, SortedRows, Steps};
@@ -122,7 +122,8 @@ fn add_for(
 fn clear_for(buckets: &mut Vec<AddressRows>, edits: &SortedRows<Edit<Row>>)
     requires sorted { AreSorted buckets.old.items }
     requires bucketed { HaveBuckets edits.now.rows (vec_len buckets.old) }
-    ensures { AreKept buckets.old.items buckets.new.items }
+    ensures kept { AreKept buckets.old.items buckets.new.items }
+    ensures cleared { AllByRecursion (IsClearedAt buckets.old.items buckets.new.items) edits.now.rows }
 {
     let mut visited = buckets.len();
     for edit in edits.rows() {

@@ -16,6 +16,9 @@ use std::sync::ledger::Ledger;
 /// From this number of bindings on, each half of them is planned by itself.
 const MANY: usize = 16;
 
+// fewer bindings than that move one another's edits, 120 at most
+const _: () = prove!(MANY <= 16);
+
 /// Adds the edit of each of these bindings, which come or go, to those that are planned.
 fn plan_each<L: Ledger>(
     bindings: &BindingBuckets,

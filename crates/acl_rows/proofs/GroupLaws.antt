@@ -1,6 +1,6 @@
 -- What the groups hold, one after the other.
 use Rattle.std.proofs.Common.{◌≡◌, ℕ, suc, ◌≤◌, Bool, true, false, cond, List, [], ◌∷◌, ◌++◌, length, Option, Some, refl, sym, ap, subst, ◌∙◌, append-nil}
-use Rattle.std.specs.Prelude.{filter, nat_lt}
+use Rattle.std.specs.Prelude.{filter}
 use Rattle.std.specs.List.{AllByRecursion, slice_get}
 use Rattle.std.specs.Map.{values_of}
 use Rattle.std.specs.declared.cmp.Ordering.TheVariants.{Less}
@@ -21,15 +21,12 @@ use Rattle.acl_rows.specs.declared.row.Row.{Row}
 use Rattle.acl_rows.specs.SortKeys.{row_sort_key}
 use Rattle.acl_rows.specs.View.{is_at}
 use Rattle.acl_rows.specs.ByAddress.{room_at, rows_of_peer, IsRowAt, grouped, AreGroups}
-use Rattle.acl_rows.specs.Groups.{Groups, group_sort_key, part_of, part_at, room_in, IsGroup, AreGrouped, HaveSameRows}
+use Rattle.acl_rows.specs.Groups.{Groups, group_sort_key, has_rows, part_of, part_at, room_in, IsGroup, AreGrouped, HaveSameRows}
 use Rattle.acl_rows.proofs.GroupSortKeys.{row_less, IsOwn, peer_rows, is_at-sort_key}
 
 -- a group of an address
 abbrev pub Group : Type 0
 Group = Addr × RowsAndRoom Row
-
-abbrev pub has_rows : Group → Bool
-has_rows g = nat_lt 0 (length g.1.rows)
 
 -- there are no more rows of an address than rows
 pub at_few : (a : Addr) (rows : List Row) → length (filter (is_at a) rows) ≤ length rows
@@ -160,12 +157,12 @@ module _ (owner : Owner) (side : Direction) where
 
   -- ---- Groups as they are lent
 
-  every : (Q : Group → Type 0) (gs : Groups) → ((k : ℕ) (g : Group) → slice_get gs k ≡ Some g → Q g) → AllByRecursion Q gs
+  pub every : (Q : Group → Type 0) (gs : Groups) → ((k : ℕ) (g : Group) → slice_get gs k ≡ Some g → Q g) → AllByRecursion Q gs
   every Q [] each = tt
   every Q (g ∷ gs) each = (each 0 g refl, every Q gs (λ k x at. each (suc k) x at))
 
   -- of a group it is said what is said of what stands at its address
-  here : (gs : Groups) → AreGrouped owner side gs → (k : ℕ) (g : Group) → slice_get gs k ≡ Some g → part_at g.0 gs ≡ g.1
+  pub here : (gs : Groups) → AreGrouped owner side gs → (k : ℕ) (g : Group) → slice_get gs k ≡ Some g → part_at g.0 gs ≡ g.1
   unfolding part_at group_sort_key
   here gs are k g at = ap part_of (row_at_row group_sort_key gs k g are.ascend at)
 

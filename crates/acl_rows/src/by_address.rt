@@ -7,7 +7,7 @@ ghost use Rattle.base_rows.specs.Sortable.{index_in, SortKeysAscend};
 ghost use Rattle.base_rows.specs.Edits.{edited};
 ghost use Rattle.acl_rows.specs.SortKeys.{row_sort_key, named_sort_key};
 ghost use Rattle.acl_rows.specs.View.{is_at};
-ghost use Rattle.acl_rows.specs.ByAddress.{room_at, index_beside, until_of_row, IsRowAt, IsEditAt, IsRoomier, AreGroups};
+ghost use Rattle.acl_rows.specs.ByAddress.{room_at, index_beside, until_of_row, IsRowAt, IsEditAt, IsRoomier, AreAddressesCleared, AreGroups};
 
 use crate::groups::GroupedRows;
 use crate::row::{FoundRow, Owner, Row, RowKey};
@@ -39,7 +39,7 @@ impl Model for AddressRows {
 
     ghost Value = { SideRows };
 
-    ghost view = { λ s. record { owner = s.owner; side = s.side; rows = grouped s.groups; room = room_in s.groups } };
+    ghost view = { λ s. record { owner = s.owner; side = s.side; rows = grouped s.groups; room = room_in s.groups; limit = s.limit } };
 
     ghost invariant = { λ s. AreGrouped s.owner s.side s.groups };
 }
@@ -50,6 +50,8 @@ impl AddressRows {
         ensures owner { result.owner ≡ owner }
         ensures side { result.side ≡ side }
         ensures rows { result.rows ≡ [] }
+        ensures room { result.room ≡ [] }
+        ensures limit { result.limit ≡ 16 }
     {
         AddressRows {
             owner,
@@ -99,6 +101,7 @@ impl AddressRows {
         ensures owner { self.new.owner ≡ self.old.owner }
         ensures side { self.new.side ≡ self.old.side }
         ensures rows { self.new.rows ≡ self.old.rows }
+        ensures cleared { AreAddressesCleared self.old self.new }
     {
         self.limit = self.groups.clear(self.limit);
     }
@@ -107,6 +110,7 @@ impl AddressRows {
     /// for it.
     pub fn reserve(&mut self, alloc: Global, addr: Addr, more: usize) -> Result<(), Memory>
         ensures kept { IsRoomier self.old self.new }
+        ensures most { length self.new.room ≤ length self.old.room + 1 }
         ensures ok { OnOk result (more ≤ room_at addr self.new.room) }
     {
         self.groups.reserve(alloc, addr, more)
@@ -128,6 +132,7 @@ impl AddressRows {
         requires found { AllByRecursion (λ edit. edit.found ≡ index_beside self.old.owner self.old.side addr (row_sort_key edit.row) self.old.rows) (drop start edits.old.rows) }
         ensures owner { self.new.owner ≡ self.old.owner }
         ensures side { self.new.side ≡ self.old.side }
+        ensures limit { self.new.limit ≡ self.old.limit }
         ensures rows { self.new.rows ≡ edited row_sort_key (drop start edits.old.rows) self.old.rows }
         ensures left { edits.new.rows ≡ take start edits.old.rows }
         ensures others { (a : AddrValue) → same_addr a addr ≡ false → room_at a self.new.room ≡ room_at a self.old.room }

@@ -6,8 +6,8 @@ ghost use Rattle.base_rows.specs.Sortable.{index_in, SortKeysAscend};
 ghost use Rattle.base_rows.specs.Edits.{AreFound};
 ghost use Rattle.acl_rows.specs.declared.row.Owner.{Owner as OwnerValue};
 ghost use Rattle.acl_rows.specs.SortKeys.{row_sort_key, named_sort_key};
-ghost use Rattle.acl_rows.specs.ByAddress.{until_of_row, grouped};
-ghost use Rattle.acl_rows.specs.Groups.{part_at, group_sort_key, AreGrouped, HaveSameRows, AreRoomier, IsEdited};
+ghost use Rattle.acl_rows.specs.ByAddress.{until_of_row, grouped, IsCleared};
+ghost use Rattle.acl_rows.specs.Groups.{part_at, group_sort_key, has_rows, AreGrouped, HaveSameRows, AreRoomier, IsEdited};
 
 use crate::row::{FoundRow, Row, RowKey};
 use base_rows::{Edit, SortedRows, Steps, make_edits_from};
@@ -87,7 +87,8 @@ impl GroupedRows {
     /// Where there are as many groups as this, those that are empty go. The answer is the number of
     /// groups at which to do so next: twice as many as are left.
     pub(crate) fn clear(&mut self, limit: usize) -> usize
-        ensures { (owner : OwnerValue) (side : DirectionValue) → AreGrouped owner side self.old → HaveSameRows owner side self.old self.new }
+        ensures same { (owner : OwnerValue) (side : DirectionValue) → AreGrouped owner side self.old → HaveSameRows owner side self.old self.new }
+        ensures cleared { IsCleared has_rows self.old self.new limit result }
     {
         clear_groups(&mut self.map, limit)
     }
@@ -96,6 +97,7 @@ impl GroupedRows {
     /// none.
     pub(crate) fn reserve(&mut self, alloc: Global, addr: Addr, more: usize) -> Result<(), Memory>
         ensures kept { (owner : OwnerValue) (side : DirectionValue) → AreGrouped owner side self.old → AreRoomier owner side self.old self.new }
+        ensures most { length self.new ≤ length self.old + 1 }
         ensures ok { OnOk result (more ≤ (part_at addr self.new).room) }
     {
         reserve_group(alloc, &mut self.map, addr, more)
@@ -162,7 +164,8 @@ fn count_groups<L: Ledger>(groups: &BTreeMap<Addr, SortedRows<Row>>, steps: &mut
 /// Where there are as many groups as this, those that are empty go. The answer is the number of
 /// groups at which to do so next: twice as many as are left.
 fn clear_groups(groups: &mut BTreeMap<Addr, SortedRows<Row>>, limit: usize) -> usize
-    ensures { (owner : OwnerValue) (side : DirectionValue) → AreGrouped owner side groups.old.entries → HaveSameRows owner side groups.old.entries groups.new.entries }
+    ensures same { (owner : OwnerValue) (side : DirectionValue) → AreGrouped owner side groups.old.entries → HaveSameRows owner side groups.old.entries groups.new.entries }
+    ensures cleared { IsCleared has_rows groups.old.entries groups.new.entries limit result }
 {
     if groups.len() < limit {
         return limit;
@@ -179,6 +182,7 @@ fn reserve_group(
     more: usize,
 ) -> Result<(), Memory>
     ensures kept { (owner : OwnerValue) (side : DirectionValue) → AreGrouped owner side groups.old.entries → AreRoomier owner side groups.old.entries groups.new.entries }
+    ensures most { length groups.new.entries ≤ length groups.old.entries + 1 }
     ensures ok { OnOk result (more ≤ (part_at addr groups.new.entries).room) }
 {
     if let Some(rows) = groups.get_mut(&addr) {

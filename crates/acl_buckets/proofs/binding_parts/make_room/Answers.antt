@@ -1,4 +1,4 @@
-use Rattle.std.proofs.Common.{◌≡◌, ◌≤◌, ◌<◌, List, length, get_or, subst}
+use Rattle.std.proofs.Common.{◌≡◌, ◌≤◌, ◌<◌, List, length, get_or, ap, subst, arith}
 use Rattle.std.proofs.lemmas.Option.{same_Some}
 use Rattle.acl_model.specs.declared.binding.MemberKey.{MemberKey}
 use Rattle.acl_model.specs.declared.binding.Binding.{Binding}
@@ -16,6 +16,7 @@ loop-edit-preserved c =
     let e : Edit Binding = c.edit-item.result in
     record {
       kept = roomier_twice _ _ _ c.loop-edit.invariant.kept c.reserve_key.ensures.kept;
+      most = omega (arith, c.loop-edit.invariant.most, c.reserve_key.ensures.most);
       each =
           next_room c.args.edits.now.rows c.loop-edit.buckets.items c.reserve_key.new.buckets.items c.loop-edit.edit-index e c.reserve_key.ensures.kept
           (subst (λ (es : List (Edit Binding)). c.loop-edit.edit-index < length es) rows c.loop-edit-test.true)
@@ -29,3 +30,9 @@ returns-clause-ok c =
     all_room c.args.edits.now.rows c.loop-edit.buckets.items c.loop-edit.edit-index
     (subst (λ (es : List (Edit Binding)). length es ≤ c.loop-edit.edit-index) c.rows-list.ensures.rows c.loop-edit-test.false)
     c.loop-edit.invariant.each
+
+pub returns-in_err-reserve_key-clause-most : goal.returns-in_err-reserve_key-clause-most
+returns-in_err-reserve_key-clause-most c = omega (arith, c.loop-edit.invariant.most, c.reserve_key.ensures.most, ap length c.rows-list.ensures.rows)
+
+pub returns-clause-most : goal.returns-clause-most
+returns-clause-most c = omega (arith, c.loop-edit.invariant.most, ap length c.rows-list.ensures.rows)

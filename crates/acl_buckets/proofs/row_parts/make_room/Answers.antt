@@ -6,13 +6,13 @@ pub clear_for-requires-clause-sorted : goal.clear_for-requires-clause-sorted
 clear_for-requires-clause-sorted c = c.add_for.ensures.kept.sorted
 
 pub reserve_for-requires-clause-sorted : goal.reserve_for-requires-clause-sorted
-reserve_for-requires-clause-sorted c = c.clear_for.ensures.sorted
+reserve_for-requires-clause-sorted c = c.clear_for.ensures.kept.sorted
 
 pub reserve_for-requires-clause-bucketed : goal.reserve_for-requires-clause-bucketed
 reserve_for-requires-clause-bucketed c =
-    buckets_more c.args.edits.now.rows c.add_for.new.buckets.len c.clear_for.new.buckets.len (omega (arith, c.clear_for.ensures.len, c.add_for.new.buckets.ok.0, c.clear_for.new.buckets.ok.0)) c.in_ok-add_for.ensures.ok
+    buckets_more c.args.edits.now.rows c.add_for.new.buckets.len c.clear_for.new.buckets.len (omega (arith, c.clear_for.ensures.kept.len, c.add_for.new.buckets.ok.0, c.clear_for.new.buckets.ok.0)) c.in_ok-add_for.ensures.ok
 
 pub returns-clause-kept : goal.returns-clause-kept
 returns-clause-kept c =
     kept_twice c.args.buckets.now.items c.add_for.new.buckets.items c.reserve_for.new.buckets.items c.add_for.ensures.kept
-    (kept_twice c.add_for.new.buckets.items c.clear_for.new.buckets.items c.reserve_for.new.buckets.items c.clear_for.ensures c.reserve_for.ensures.kept.kept)
+    (kept_twice c.add_for.new.buckets.items c.clear_for.new.buckets.items c.reserve_for.new.buckets.items c.clear_for.ensures.kept c.reserve_for.ensures.kept.kept)

@@ -1,6 +1,7 @@
 -- What a table holds, as slots are made, written and forgotten.
-use Rattle.std.proofs.Common.{◌≡◌, ℕ, ◌-◌, ◌<◌, ◌≤◌, Bool, true, false, cond, IsTrue, List, [], ◌∷◌, ◌++◌, Option, Some, None, inl, inr, if◌then◌else◌, refl, sym, ap, ◌∙◌, subst, arith}
+use Rattle.std.proofs.Common.{◌≡◌, ℕ, ◌+◌, ◌-◌, ◌<◌, ◌≤◌, Bool, true, false, ◌||◌, nat_le, cond, IsTrue, List, [], ◌∷◌, ◌++◌, Option, Some, None, inl, inr, if◌then◌else◌, refl, sym, ap, ◌∙◌, subst, arith}
 use Rattle.std.specs.Prelude.{IsSome, option_map}
+use Rattle.std.specs.List.{list_any}
 use Rattle.std.specs.Option.{is_none}
 use Rattle.std.specs.BTreeMap.{is_at}
 use Rattle.std.proofs.lemmas.Bool.Decides.{nat_tests}
@@ -8,9 +9,9 @@ use Rattle.table_model.specs.History.{Endpoint, Begun, last_packet_at, is_betwee
 use Rattle.table_model.specs.declared.segment.Segment.{Segment}
 use Rattle.flow_table.specs.Kept.{StandsFor, is_since, beginner_kept, kept_after}
 use Rattle.flow_table.specs.Keys.{Key, key_cmp, key_of}
-use Rattle.flow_table.specs.Held.{Held, with_newest, slot_at, filled, slot_first, held_at, held_between, flows_of, IsNoted, IsSound, HoldsAll, IsWritten, held_of}
+use Rattle.flow_table.specs.Held.{Held, with_newest, slot_at, filled, slot_first, held_at, held_between, flows_of, IsNoted, BeginsInTime, IsSound, is_of_generation, AreOfGeneration, HoldsAll, IsWritten, held_of}
 use Rattle.flow_table.proofs.KeyLaws.{at_same, at_itself, at_turned, between_at}
-use Rattle.flow_table.proofs.Histories.{MayForget, HasNoted, nothing_stands, noted_stands}
+use Rattle.flow_table.proofs.Histories.{MayForget, HasNoted, and_both, any_push, nothing_stands, noted_stands}
 
 abbrev Slots : Type 0
 Slots = List (Key × Option Begun)
@@ -67,9 +68,17 @@ nowhere : (slots : Slots) (q : Key) → slots ≡ [] → slot_at slots q ≡ Non
 unfolding slot_at
 nowhere slots q e = rw e refl
 
-new_sound : (last : Option ℕ) (since : ℕ) (younger elder : Slots) → younger ≡ [] → elder ≡ [] → IsSound (held_of last since None younger elder)
+no_slot : (slots : Slots) (q : Key) → slots ≡ [] → IsSome (slot_at slots q) → ⊥
+no_slot slots q e = by (slot_at slots q) (nowhere slots q e)
+  where
+    by : (o : Option (Option Begun)) → o ≡ None → IsSome o → ⊥
+    by None e h = cc
+    by (Some begun) e h = cc
+
+new_sound : (younger elder : Slots) → younger ≡ [] → elder ≡ [] → IsSound (held_of None 0 None younger elder)
 unfolding with_newest
-new_sound last since younger elder e f = record {
+new_sound younger elder e f = record {
+  begun = refl;
   elder = λ q begun h. let n = nowhere elder q f in absurd (cc);
   noted = λ q begun h. let n = nowhere elder q f in absurd (cc);
   younger = λ q begun h. let n = nowhere younger q e in absurd (cc);
@@ -81,10 +90,13 @@ new_stands since younger elder e f =
     let t : Held = held_of None since None younger elder in
     nothing_stands (flows_of t) refl (λ a b. sym (held_nowhere t (key_of a b) (sym (nowhere younger (key_of a b) e)) (sym (nowhere elder (key_of a b) f))))
 
-pub new_holds : (history : List Segment) (since : ℕ) (younger elder : Slots) → history ≡ [] → younger ≡ [] → elder ≡ [] → HoldsAll history (held_of None since None younger elder)
-new_holds history since younger elder none e f = record {
-  sound = new_sound None since younger elder e f;
-  stands = subst (λ (h : List Segment). StandsFor h (flows_of (held_of None since None younger elder))) (sym none) (new_stands since younger elder e f);
+pub new_holds : (history : List Segment) (younger elder : Slots) → history ≡ [] → younger ≡ [] → elder ≡ [] → HoldsAll history (held_of None 0 None younger elder)
+unfolding with_newest
+new_holds history younger elder none e f = record {
+  sound = new_sound younger elder e f;
+  stands = subst (λ (h : List Segment). StandsFor h (flows_of (held_of None 0 None younger elder))) (sym none) (new_stands 0 younger elder e f);
+  recent = λ q h. absurd (no_slot younger q e h);
+  elder = (0, λ q h. absurd (no_slot elder q f h));
 }
 
 -- ---- A slot more
@@ -117,12 +129,21 @@ unfolding slot_at with_newest
 room_sound last since newest younger after elder k v s e u =
     let S : Option (Key × Option Begun) → Type 0 = λ o. IsSound (held_of last since o younger elder) in
     let sound : IsSound (held_of last since (Some (k, v)) younger elder) = subst S e s in
-    record { elder = sound.elder; noted = sound.noted; younger = λ q begun h. sound.younger q begun (sym (slots_alike k v younger after u q) ∙ h) }
+    record { begun = sound.begun; elder = sound.elder; noted = sound.noted; younger = λ q begun h. sound.younger q begun (sym (slots_alike k v younger after u q) ∙ h) }
+
+room_recent : (history : List Segment) (since : ℕ) (newest : Option (Key × Option Begun)) (younger after : Slots) (k : Key) (v : Option Begun) → AreOfGeneration history since (with_newest newest younger) → newest ≡ Some (k, v) → Puts k v younger after → AreOfGeneration history since after
+room_recent history since newest younger after k v are e u q h =
+    let S : Option (Key × Option Begun) → Type 0 = λ o. AreOfGeneration history since (with_newest o younger) in
+    let apart : AreOfGeneration history since (with_newest (Some (k, v)) younger) = subst S e are in
+    apart q (subst (λ (o : Option (Option Begun)). IsSome o) (slots_alike k v younger after u q) h)
 
 pub room_holds : (history : List Segment) (last : Option ℕ) (since : ℕ) (newest : Option (Key × Option Begun)) (younger after elder : Slots) (k : Key) (v : Option Begun) → HoldsAll history (held_of last since newest younger elder) → newest ≡ Some (k, v) → Puts k v younger after → HoldsAll history (held_of last since None after elder)
+unfolding with_newest
 room_holds history last since newest younger after elder k v holds e u = record {
   sound = room_sound last since newest younger after elder k v holds.sound e u;
   stands = subst (StandsFor history) (sym (room_same last since newest younger after elder k v e u)) holds.stands;
+  recent = room_recent history since newest younger after k v holds.recent e u;
+  elder = holds.elder;
 }
 
 inner_same : (a b : Option Begun) → Some a ≡ Some b → a ≡ b
@@ -215,8 +236,14 @@ writes_noted t before after k p h w q begun e = by (is_at (key_cmp k) q) refl
 younger_noted : (t : Held) (p : Segment) → IsSound t → IsTrue (is_since t.last p.at) → (q : Key) (begun : Begun) → slot_at t.younger q ≡ Some (Some begun) → begun.1 ≤ p.at
 younger_noted t p s i q begun e = noted_on t.last p.at begun.1 i (s.younger q begun e)
 
-pub kept_on_sound : (t : Held) (room : Bool) (after : Slots) (k : Key) (p : Segment) → IsSound t → IsTrue (is_since t.last p.at) → Writes t t.younger k p after → IsSound (kept_on t room after p.at)
-kept_on_sound t room after k p s i w = record {
+since_before : (last : Option ℕ) (since m : ℕ) → IsTrue (is_since last m) → BeginsInTime last since → since ≤ m
+unfolding is_since
+since_before None since m h b = omega arith
+since_before (Some l) since m h b = grind (arith, nat_tests)
+
+pub kept_on_sound : (t : Held) (room : Bool) (after : Slots) (k : Key) (p : Segment) → IsSound t → IsTrue (is_since t.last p.at) → p.at ≤ t.since + 7440 → Writes t t.younger k p after → IsSound (kept_on t room after p.at)
+kept_on_sound t room after k p s i near w = record {
+  begun = (since_before t.last t.since p.at i s.begun, near);
   elder = s.elder;
   noted = λ q begun e. noted_on t.last p.at begun.1 i (s.noted q begun e);
   younger = writes_noted t t.younger after k p (younger_noted t p s i) w;
@@ -224,10 +251,46 @@ kept_on_sound t room after k p s i w = record {
 
 turned_sound : (t : Held) (room : Bool) (none after : Slots) (k : Key) (p : Segment) → IsSound t → IsTrue (is_since t.last p.at) → none ≡ [] → Writes t none k p after → IsSound (turned t room after p.at)
 turned_sound t room none after k p s i n w = record {
+  begun = (omega arith, omega arith);
   elder = younger_noted t p s i;
   noted = younger_noted t p s i;
   younger = writes_noted t none after k p (λ q begun e. let f = nowhere none q n in absurd (cc)) w;
 }
+
+-- ---- Of which generation slots are, with one packet more
+
+or_left : (a b : Bool) → IsTrue a → IsTrue (a || b)
+or_left true b h = refl
+or_left false b h = absurd (cc)
+
+or_right : (a b : Bool) → IsTrue b → IsTrue (a || b)
+or_right true b h = refl
+or_right false b h = h
+
+is_of : (since : ℕ) (k q : Key) (p : Segment) → k ≡ key_of p.source p.destination → since ≤ p.at → p.at ≤ since + 7440 → is_at (key_cmp k) q ≡ true → IsTrue (is_of_generation since q p)
+unfolding is_of_generation
+is_of since k q p e from to h =
+    let begun : IsTrue (nat_le since p.at) = grind (arith, nat_tests) in
+    let ended : IsTrue (nat_le p.at (since + 7440)) = grind (arith, nat_tests) in
+    and_both _ _ (ap (λ j. is_at (key_cmp q) j) (sym e) ∙ at_turned k q ∙ h) (and_both _ _ begun ended)
+
+-- slots stay those of their generation
+generation_stays : (history : List Segment) (p : Segment) (since : ℕ) (slots : Slots) → AreOfGeneration history since slots → AreOfGeneration (history ++ p ∷ []) since slots
+generation_stays history p since slots are q h = rw (any_push (is_of_generation since q) history p) (or_left _ _ (are q h))
+
+pub elder_stays : (history : List Segment) (p : Segment) (slots : Slots) → (since : ℕ) × AreOfGeneration history since slots → (since : ℕ) × AreOfGeneration (history ++ p ∷ []) since slots
+elder_stays history p slots are = (are.0, generation_stays history p are.0 slots are.1)
+
+-- and the packet's is one of them, where it comes in time
+generation_noted : (history : List Segment) (t : Held) (before after : Slots) (k : Key) (p : Segment) (since : ℕ) → k ≡ key_of p.source p.destination → since ≤ p.at → p.at ≤ since + 7440 → Writes t before k p after → AreOfGeneration history since before → AreOfGeneration (history ++ p ∷ []) since after
+generation_noted history t before after k p since e from to w are q h = rw (any_push (is_of_generation since q) history p) (by (is_at (key_cmp k) q) refl)
+  where
+    by : (b : Bool) → is_at (key_cmp k) q ≡ b → IsTrue (list_any (is_of_generation since q) history || is_of_generation since q p)
+    by true c = or_right _ _ (is_of since k q p e from to c)
+    by false c = or_left _ _ (are q (subst (λ (o : Option (Option Begun)). IsSome o) (w.others q c) h))
+
+pub kept_on_recent : (history : List Segment) (t : Held) (after : Slots) (k : Key) (p : Segment) → IsSound t → IsTrue (is_since t.last p.at) → p.at ≤ t.since + 7440 → k ≡ key_of p.source p.destination → Writes t t.younger k p after → AreOfGeneration history t.since t.younger → AreOfGeneration (history ++ p ∷ []) t.since after
+kept_on_recent history t after k p s i near e w are = generation_noted history t t.younger after k p t.since e (since_before t.last t.since p.at i s.begun) near w are
 
 -- ---- The three ways in which a packet is noted, where nothing stands apart
 
@@ -282,14 +345,24 @@ late_noted last since newest younger elder none k p v s late room n f e =
     let P : Slots → Type 0 = λ slots. HasNoted p (flows_of (held_of last since newest younger elder)) (flows_of (record { last = Some p.at; since = p.at; has_room = false; younger = with_newest (Some (k, v)) none; elder = slots })) in
     subst P (room_none newest younger room) (turned_noted (held_of last since newest younger elder) false none (with_newest (Some (k, v)) none) k p s late n f (writes_late last since newest younger elder none k p v room e))
 
+pub late_recent : (history : List Segment) (last : Option ℕ) (since : ℕ) (newest : Option (Key × Option Begun)) (younger elder none : Slots) (k : Key) (p : Segment) (v : Option Begun) → IsTrue (is_none newest) → none ≡ [] → k ≡ key_of p.source p.destination → v ≡ kept_after p (slot_first (slot_at younger k) (slot_at elder k)) → AreOfGeneration (history ++ p ∷ []) p.at (with_newest (Some (k, v)) none)
+late_recent history last since newest younger elder none k p v room n e f =
+    generation_noted history (held_of last since newest younger elder) none (with_newest (Some (k, v)) none) k p p.at e (omega arith) (omega arith) (writes_late last since newest younger elder none k p v room f) (λ q h. absurd (no_slot none q n h))
+
+-- the younger generation becomes the elder one, with its beginning
+pub late_elder : (history : List Segment) (since : ℕ) (newest : Option (Key × Option Begun)) (younger : Slots) (p : Segment) → IsTrue (is_none newest) → AreOfGeneration history since (with_newest newest younger) → (before : ℕ) × AreOfGeneration (history ++ p ∷ []) before younger
+late_elder history since newest younger p room are = (since, generation_stays history p since younger (subst (AreOfGeneration history since) (room_none newest younger room) are))
+
 -- ---- A packet noted, and the history with it
 
 -- where the table answered as the history does, and has noted this packet
-pub noted_holds : (history after : List Segment) (p : Segment) (before : Held) (now : Held) → HoldsAll history before → IsTrue (is_since (last_packet_at history) p.at) → IsSound now → HasNoted p (flows_of before) (flows_of now) → after ≡ history ++ p ∷ [] → HoldsAll after now
-noted_holds history after p before now holds since sound noted e = record {
+pub noted_holds : (history after : List Segment) (p : Segment) (before : Held) (now : Held) → HoldsAll history before → IsTrue (is_since (last_packet_at history) p.at) → IsSound now → HasNoted p (flows_of before) (flows_of now) → AreOfGeneration (history ++ p ∷ []) now.since now.younger → ((from : ℕ) × AreOfGeneration (history ++ p ∷ []) from now.elder) → after ≡ history ++ p ∷ [] → HoldsAll after now
+noted_holds history after p before now holds since sound noted recent elder e = subst (λ (h : List Segment). HoldsAll h now) (sym e) (record {
   sound = sound;
-  stands = subst (λ (h : List Segment). StandsFor h (flows_of now)) (sym e) (noted_stands history p (flows_of before) (flows_of now) holds.stands (rw holds.stands.last since) noted);
-}
+  stands = noted_stands history p (flows_of before) (flows_of now) holds.stands (rw holds.stands.last since) noted;
+  recent = recent;
+  elder = elder;
+})
 
 pub last_since : (history : List Segment) (held : Held) (at : ℕ) → HoldsAll history held → IsTrue (is_since (last_packet_at history) at) → IsTrue (is_since held.last at)
 unfolding flows_of

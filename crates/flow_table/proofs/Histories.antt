@@ -32,7 +32,7 @@ last_push [] p = refl
 last_push (q ∷ []) p = refl
 last_push (q ∷ (r ∷ rs)) p = last_push (r ∷ rs) p
 
-and_both : (a b : Bool) → IsTrue a → IsTrue b → IsTrue (a && b)
+pub and_both : (a b : Bool) → IsTrue a → IsTrue b → IsTrue (a && b)
 and_both true b h i = i
 and_both false b h i = h
 
@@ -51,7 +51,7 @@ forward_push (q ∷ []) p h i = and_both _ _ i refl
 forward_push (q ∷ (r ∷ rs)) p h i =
     and_both (nat_le q.at r.at) _ (and_left (nat_le q.at r.at) (is_forward (r ∷ rs)) h) (forward_push (r ∷ rs) p (and_right (nat_le q.at r.at) (is_forward (r ∷ rs)) h) i)
 
-any_push : (f : Segment → Bool) (xs : List Segment) (p : Segment) → list_any f (xs ++ p ∷ []) ≡ (list_any f xs || f p)
+pub any_push : (f : Segment → Bool) (xs : List Segment) (p : Segment) → list_any f (xs ++ p ∷ []) ≡ (list_any f xs || f p)
 any_push f [] p = by (f p)
   where
     by : (b : Bool) → (b || false) ≡ b

@@ -1,9 +1,11 @@
 -- What a table of connections holds: two generations of slots, and what it keeps by them.
-use Rattle.std.specs.Prelude.{◌≡◌, ℕ, ◌≤◌, Bool, false, List, ◌∷◌, Option, Some, None}
+use Rattle.std.specs.Prelude.{◌≡◌, ℕ, ◌+◌, ◌≤◌, Bool, false, ◌&&◌, nat_le, IsTrue, List, ◌∷◌, Option, Some, None, IsSome}
+use Rattle.std.specs.List.{list_any}
 use Rattle.std.specs.Option.{is_none}
 use Rattle.std.specs.Map.{lookup}
 use Rattle.std.specs.BTreeMap.{is_at}
 use Rattle.table_model.specs.History.{Endpoint, Begun}
+use Rattle.table_model.specs.Limits.{most}
 use Rattle.table_model.specs.declared.segment.Segment.{Segment}
 use Rattle.flow_table.specs.Kept.{Flows, StandsFor, kept_after}
 use Rattle.flow_table.specs.Keys.{Key, key_cmp, key_of}
@@ -53,17 +55,36 @@ abbrev pub IsNoted : Option ℕ → ℕ → Type 0
 IsNoted None at = ⊥
 IsNoted (Some last) at = at ≤ last
 
+-- Where a generation that was begun at this moment may stand: at 0 before any packet; then at the moment of the last one
+-- or before it, by no more than a connection may be silent.
+abbrev pub BeginsInTime : Option ℕ → ℕ → Type 0
+BeginsInTime None since = since ≡ 0
+BeginsInTime (Some last) since = (since ≤ last) × (last ≤ since + most.pause)
+
 -- Nothing in the elder generation is later than the beginning of the younger one, and nothing is later than the last
--- packet.
+-- packet, behind which the younger one was begun no longer ago than a connection may be silent.
 pub record IsSound (held : Held) : Type 0 where
+  pub begun : BeginsInTime held.last held.since
   pub elder : (key : Key) (begun : Begun) → slot_at held.elder key ≡ Some (Some begun) → begun.1 ≤ held.since
   pub noted : (key : Key) (begun : Begun) → slot_at held.elder key ≡ Some (Some begun) → IsNoted held.last begun.1
   pub younger : (key : Key) (begun : Begun) → slot_at held.younger key ≡ Some (Some begun) → IsNoted held.last begun.1
 
--- the table answers as the list of all packets that were noted does
+-- the packet has this key, and is of a generation that was begun at this moment: no earlier, and no later than a
+-- connection may be silent
+unfoldable pub is_of_generation : ℕ → Key → Segment → Bool
+is_of_generation since key p = is_at (key_cmp key) (key_of p.source p.destination) && (nat_le since p.at && nat_le p.at (since + most.pause))
+
+-- each key that has a slot has a packet in the history that is of the generation begun at this moment
+abbrev pub AreOfGeneration : List Segment → ℕ → List (Key × Option Begun) → Type 0
+AreOfGeneration history since slots = (key : Key) → IsSome (slot_at slots key) → IsTrue (list_any (is_of_generation since key) history)
+
+-- The table answers as the list of all packets that were noted does. Each connection that has a slot had a packet in the
+-- time of its generation: of the younger one from its beginning on, of the elder one from one moment before.
 pub record HoldsAll (history : List Segment) (held : Held) : Type 0 where
   pub sound : IsSound held
   pub stands : StandsFor history (flows_of held)
+  pub recent : AreOfGeneration history held.since held.younger
+  pub elder : (before : ℕ) × AreOfGeneration history before held.elder
 
 -- the slot of this key has what is kept after the packet, and each other slot stays
 pub record IsWritten (key : Key) (p : Segment) (before : List (Key × Option Begun)) (after : List (Key × Option Begun)) : Type 0 where

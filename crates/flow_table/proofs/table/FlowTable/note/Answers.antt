@@ -1,9 +1,9 @@
-use Rattle.std.proofs.Common.{◌≡◌, ◌<◌, ◌-◌, IsTrue, sym, ap, ◌∙◌, subst, arith}
+use Rattle.std.proofs.Common.{◌≡◌, ◌<◌, ◌≤◌, ◌+◌, ◌-◌, IsTrue, sym, ap, ◌∙◌, subst, arith}
 use Rattle.flow_table.specs.Noted.{Noted, follows, segment_planned, IsPlanned}
 use Rattle.flow_table.specs.declared.table.FlowPlan.{FlowPlan}
 use Rattle.flow_table.specs.Kept.{kept_after}
 use Rattle.flow_table.specs.Held.{Held, held_of}
-use Rattle.flow_table.proofs.HeldLaws.{noted_holds, last_since, kept_on_noted, kept_on_sound, late_noted, late_sound, writes_slot, writes_apart}
+use Rattle.flow_table.proofs.HeldLaws.{noted_holds, last_since, kept_on_noted, kept_on_sound, kept_on_recent, elder_stays, late_noted, late_sound, late_recent, late_elder, writes_slot, writes_apart}
 use Rattle.flow_table.proofs.table.FlowTable.note.Goals as goal
 
 -- what was asked of the table, of its parts
@@ -33,6 +33,8 @@ invariant_of-self c =
     (noted_holds history _ packet before _ c.self.invariant after
     (late_sound last since newest younger elder _ c.key_of-key.result packet _ c.self.invariant.sound (last_since history before packet.at c.self.invariant after) room c.new.ensures.empty kept)
     (late_noted last since newest younger elder _ c.key_of-key.result packet _ c.self.invariant.sound late room c.new.ensures.empty c.key_of-key.ensures kept)
+    (late_recent history last since newest younger elder _ c.key_of-key.result packet _ room c.new.ensures.empty c.key_of-key.ensures kept)
+    (late_elder history since newest younger packet room c.self.invariant.recent)
     c.and-self-inside.ensures)
 
 pub invariant_of-self-else-not-write_slot : goal.invariant_of-self-else-not-write_slot
@@ -48,10 +50,13 @@ invariant_of-self-else-not-write_slot c =
     let packet = c.args.plan.packet in
     let room = room_inside _ _ _ c.self.view_is c.requires in
     let after = since_inside _ _ _ c.self.view_is c.requires in
+    let near : packet.at ≤ since + 7440 = omega arith in
     let writes = writes_slot last since newest younger _ elder c.key_of-key.result packet room (c.write_slot.ensures.there c.if-not-write_slot.false) (c.write_slot.ensures.written c.if-not-write_slot.false) in
     noted_holds history _ packet before _ c.self.invariant after
-    (kept_on_sound before _ _ c.key_of-key.result packet c.self.invariant.sound (last_since history before packet.at c.self.invariant after) writes)
+    (kept_on_sound before _ _ c.key_of-key.result packet c.self.invariant.sound (last_since history before packet.at c.self.invariant after) near writes)
     (kept_on_noted before _ _ c.key_of-key.result packet c.key_of-key.ensures writes)
+    (kept_on_recent history before _ c.key_of-key.result packet c.self.invariant.sound (last_since history before packet.at c.self.invariant after) near c.key_of-key.ensures writes c.self.invariant.recent)
+    (elder_stays history packet elder c.self.invariant.elder)
     c.and-self-inside.ensures
 
 pub invariant_of-self-then-not-write_slot : goal.invariant_of-self-then-not-write_slot
@@ -67,10 +72,13 @@ invariant_of-self-then-not-write_slot c =
     let packet = c.args.plan.packet in
     let room = room_inside _ _ _ c.self.view_is c.requires in
     let after = since_inside _ _ _ c.self.view_is c.requires in
+    let near : packet.at ≤ since + 7440 = omega arith in
     let writes = writes_apart last since newest younger _ elder c.key_of-key.result packet _ room (c.write_slot.ensures.absent c.if-not-write_slot.true) (c.write_slot.ensures.same c.if-not-write_slot.true) (c.kept_after-noted.ensures ∙ ap (kept_after packet) c.kept_in-before.ensures) in
     noted_holds history _ packet before _ c.self.invariant after
-    (kept_on_sound before _ _ c.key_of-key.result packet c.self.invariant.sound (last_since history before packet.at c.self.invariant after) writes)
+    (kept_on_sound before _ _ c.key_of-key.result packet c.self.invariant.sound (last_since history before packet.at c.self.invariant after) near writes)
     (kept_on_noted before _ _ c.key_of-key.result packet c.key_of-key.ensures writes)
+    (kept_on_recent history before _ c.key_of-key.result packet c.self.invariant.sound (last_since history before packet.at c.self.invariant after) near c.key_of-key.ensures writes c.self.invariant.recent)
+    (elder_stays history packet elder c.self.invariant.elder)
     c.and-self-inside.ensures
 
 pub returns-then-saturating_sub-gt-MOST_PAUSE : goal.returns-then-saturating_sub-gt-MOST_PAUSE

@@ -2,16 +2,18 @@
 //! over them.
 #![tactic(auto)]
 
+mod run;
+mod store;
+
 ghost use Rattle.std.specs.Prelude.{◌≡◌, IfSome};
 ghost use Rattle.run_words.specs.Operands.{folder_in, store_in};
 ghost use Rattle.run_words.specs.Words.{command_in, words_of};
 
+use crate::run::run_store;
 use io_system::{Call, Failure, RealClock, RealDoor, RealSpool};
 use item_codec::kinds::CLASS_KIND;
-use keep_sqlite::PathKeeper;
-use mud_base::Listed;
-use mud_cli::{Status, mud_main};
-use mud_world::{Keeper, MemoryKeeper};
+use mud_cli::Status;
+use mud_world::Keeper;
 use run_words::{Command, USAGE, command_of, folder_word, store_word};
 use std::alloc::{AllocError, Global};
 use std::io::ErrorKind;
@@ -83,33 +85,31 @@ fn take_streams(rt: &HostRuntime) -> [io::Result<<HostRuntime as Files>::File>; 
     [fs::open(rt, "/"), fs::open(rt, "/"), fs::open(rt, "/")]
 }
 
-/// Runs these words. Neither the keeper of a store's file nor the spool of a folder opens anything
-/// before a command does.
+/// Runs these words. The file of a store is opened before the command begins, and the folder isn't
+/// before the command lists it.
 fn run_with_store(rt: HostRuntime, words: &[String]) -> io::Result<u8> {
     let alloc = rt.alloc();
     let (store, folder) = operands(alloc, words);
     let folder = String::from_str(alloc, folder)?;
-    let keeper: Box<dyn Keeper> = if store == IN_MEMORY {
-        Box::new(alloc, MemoryKeeper::new(alloc, Listed::new(alloc)))?
+    let path = if store == IN_MEMORY {
+        None
     } else {
-        Box::new(
-            alloc,
-            PathKeeper::over(&rt, String::from_str(alloc, store)?),
-        )?
+        Some(String::from_str(alloc, store)?)
     };
-    Ok(run_over(rt, words, keeper, folder))
+    Ok(run_over(rt, words, path, folder))
 }
 
-/// Runs these words over a keeper and the path of a folder, and answers the status. Nothing stands
-/// between standard input and the door, so no octet is taken of it that the door doesn't ask for.
-/// Where a read or a write failed, standard error is told why; the keeper of a file tells it itself.
-/// So it is told where `snoop` could learn nothing.
-fn run_over(rt: HostRuntime, words: &[String], keeper: Box<dyn Keeper>, folder: String) -> u8 {
+/// Runs these words over the file of a store, or one in memory, and the path of a folder, and answers
+/// the status. Nothing stands between standard input and the door, so no octet is taken of it that
+/// the door doesn't ask for. Where a read or a write failed, standard error is told why; the keeper of
+/// a file tells it itself. So it is told where `snoop` could learn nothing.
+fn run_over(rt: HostRuntime, words: &[String], path: Option<String>, folder: String) -> u8 {
     let alloc = rt.alloc();
     let mut door = RealDoor::new(rt.reader(), io::writer(&rt), rt);
     let mut spool = RealSpool::new(rt, folder);
     let mut clock = RealClock::new(rt);
-    let (status, mut keeper) = mud_main(alloc, words, keeper, &mut door, &mut spool, &mut clock);
+    let (status, mut keeper) =
+        run_store(alloc, &rt, words, path, &mut door, &mut spool, &mut clock);
     if status == Status::DoorFailed.number() {
         tell(rt, door.failure);
         tell(rt, spool.failure);
@@ -132,7 +132,7 @@ fn is_snoop_to_the_end(alloc: Global, words: &[String], status: u8) -> bool {
 
 /// Whether the items that a keeper keeps bind no address to the class of DNS servers: a class of no
 /// address is no item. They are read once more for it; where that fails, this isn't known, and false.
-fn binds_no_dns_server(alloc: Global, keeper: &mut Box<dyn Keeper>) -> bool {
+fn binds_no_dns_server<K: Keeper>(alloc: Global, keeper: &mut K) -> bool {
     let Ok(items) = keeper.open(alloc) else {
         return false;
     };

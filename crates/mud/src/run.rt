@@ -1,0 +1,62 @@
+//! A run over the store that its words name.
+ghost use Rattle.std.specs.Prelude.{◌≡◌, ◌×◌, ◌↔◌, None};
+ghost use Rattle.run_common.specs.Status.{Is};
+ghost use Rattle.run_common.specs.declared.status.Status.TheVariants.{Unlisted};
+ghost use Rattle.run_words.specs.Words.{command_in, words_of};
+ghost use Rattle.mud_cli.specs.Runs.{AsTold, Does, LeavesAlone, world};
+ghost use Rattle.keep_sqlite.specs.FromFile.{BeginsWithFile};
+ghost use Rattle.sqlite.specs.WalFiles.{image_at};
+
+use crate::store::StoreKeeper;
+use keep_sqlite::{FileKeeper, open_file};
+use mud_base::Listed;
+use mud_cli::mud_main;
+use mud_world::{Clock, Door, Keeper, MemoryKeeper, Spool};
+use sqlite::{File, FileFrom, FileStore, Start, Unknown};
+use std::alloc::Global;
+
+/// Runs these words over the file at a path, and answers the status and the keeper of the file. `S`
+/// stands for what the files at the path hold, whatever it is.
+pub fn run_file<S: Start, D: Door, P: Spool, C: Clock>(
+    alloc: Global,
+    rt: &HostRuntime,
+    words: &[String],
+    path: String,
+    start: S,
+    door: &mut D,
+    spool: &mut P,
+    clock: &mut C,
+) -> (u8, StoreKeeper<MemoryKeeper, FileKeeper<FileStore<FileFrom<S>>>>)
+    ensures words { Is Unlisted result.0 ↔ (command_in (words_of words.now) ≡ None) }
+    // The run begins with the items that the file held, does what the command's record says, and leaves
+    // alone what isn't the command's own.
+    ensures does { BeginsWithFile ⟦<StoreKeeper<MemoryKeeper, FileKeeper<FileStore<FileFrom<S>>>> as Keeper>⟧ (image_at S.Start)
+        (λ first. AsTold (Does ⟦<StoreKeeper<MemoryKeeper, FileKeeper<FileStore<FileFrom<S>>>> as Keeper>⟧
+        ⟦<D as Door>⟧ ⟦<P as Spool>⟧ ⟦<C as Clock>⟧ first result.1
+        (world door.old spool.old clock.old) (world door.new spool.new clock.new) result.0) (words_of words.now)
+        × AsTold (LeavesAlone first result.1
+        (world door.old spool.old clock.old) (world door.new spool.new clock.new) result.0) (words_of words.now)) }
+{
+    let keeper = StoreKeeper::File(open_file(rt, path, start));
+    mud_main(alloc, words, keeper, door, spool, clock)
+}
+
+/// Runs these words over the file at the path, or where there is none over a store in memory alone,
+/// that is empty.
+pub fn run_store<D: Door, P: Spool, C: Clock>(
+    alloc: Global,
+    rt: &HostRuntime,
+    words: &[String],
+    path: Option<String>,
+    door: &mut D,
+    spool: &mut P,
+    clock: &mut C,
+) -> (u8, StoreKeeper<MemoryKeeper, FileKeeper<FileStore<File>>>) {
+    match path {
+        Some(path) => run_file(alloc, rt, words, path, Unknown, door, spool, clock),
+        None => {
+            let keeper = StoreKeeper::Memory(MemoryKeeper::new(alloc, Listed::new(alloc)));
+            mud_main(alloc, words, keeper, door, spool, clock)
+        }
+    }
+}

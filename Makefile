@@ -32,7 +32,7 @@ test:
 	bash .ci/run
 
 checks: build
-	bash checks/pages
+	checks/run -j "$$(nproc)" gate checks minutes
 	bash checks/words
 	checks/definitions
 	checks/definitions --print >/dev/null

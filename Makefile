@@ -33,19 +33,10 @@ test:
 
 checks: build
 	checks/run -j "$$(nproc)" gate checks minutes
-	bash checks/words
-	checks/definitions
-	checks/definitions --print >/dev/null
-	checks/proofs >/dev/null
-	bash checks/plants --texts
-	bash checks/examples
 	bash checks/faulty-runs
-	bash checks/sessions
-	bash checks/connections
 	bash checks/real-clients
 	bash checks/stopped-stores
 	bash checks/shown-commands
-	bash checks/lent-views
 	bash checks/contrib
 	bash checks/made-network
 	bash checks/hostile-inputs
@@ -55,10 +46,10 @@ checks: build
 	checks/exported-lists
 
 proofs:
-	@bash checks/proofs
+	@checks/print proofs
 
 trusted:
-	@checks/definitions --print
+	@checks/print trusted
 
 limits: build
 	bash checks/far-limits
@@ -67,7 +58,7 @@ memory: build
 	checks/failing-allocations
 
 plants:
-	checks/plants $(CRATES)
+	checks/run $(if $(CRATES),$(addprefix wrong-bodies.,$(CRATES)),wrong-bodies)
 
 fuzz: build
 	fuzz/fuzz -m $(MINUTES)

@@ -80,3 +80,12 @@ class ProgramCase(Case):
         with open(self.path(name), "wb") as file:
             file.write(octets)
         return self.path(name)
+
+    def ends(self, what, status, wanted, ended):
+        """A run has ended with this status, and has written just this: one comparison."""
+        wanted = wanted.encode() if isinstance(wanted, str) else wanted
+        with self.subTest(what):
+            if wanted != ended.out:
+                raise AssertionError(f"status {ended.status} (wanted is {status}); " + differ(wanted, ended.out))
+            if status != ended.status:
+                raise AssertionError(f"wanted status {status}, got {ended.status}")

@@ -40,6 +40,18 @@ def run(*words, input=b"", out=None, program=PROGRAM, **more):
     return Ended(ran.returncode, written, errors, left)
 
 
+def run_in_pieces(pieces, *words, pause=0.01):
+    """The same of an input that comes in pieces, with a pause between two."""
+    with subprocess.Popen([PROGRAM, *words], stdin=subprocess.PIPE, stdout=subprocess.PIPE, bufsize=0) as ran:
+        with contextlib.suppress(BrokenPipeError):
+            for number, piece in enumerate(pieces):
+                time.sleep(pause if number else 0)
+                ran.stdin.write(piece)
+        ran.stdin.close()
+        written = ran.stdout.read()
+    return Ended(ran.returncode, written, b"", None)
+
+
 @contextlib.contextmanager
 def folder_at(path):
     """A descriptor of a folder."""
@@ -182,7 +194,5 @@ def read(name, folder=HERE):
 
 
 def table(path):
-    """The rows of a table of examples, without its first line; the last column is the rest of the line."""
-    text = read(path).decode()
-    columns = text.split("\n", 1)[0].count("\t")
-    return [line.split("\t", columns) for line in text.split("\n")[1:] if line]
+    """The rows of a table of examples, without its first line."""
+    return [line.split("\t") for line in read(path).decode().split("\n")[1:] if line]

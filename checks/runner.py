@@ -33,13 +33,16 @@ def names_of(one):
 
 
 def chosen(words):
-    """What the words name: for each class its check and its cases; None where a word is no name."""
+    """What the words name, as units: each a check, a class and a case of it, or all its cases where they are made
+    ready together; None where a word is no name."""
     groups, found = listed(), []
     for word in words:
         check, _, case = word.partition(".")
         checks = [name for name, group in groups.items() if word in (name, group) or check == name]
-        units = [(name, one, [it for it in names_of(one) if case in ("", it)]) for name in checks for one in classes_of(name)]
-        units = [unit for unit in units if unit[2]]
+        units = []
+        for name, one in [(name, one) for name in checks for one in classes_of(name)]:
+            cases = [it for it in names_of(one) if case in ("", it)]
+            units += [(name, one, part) for part in ([cases] if "setUpClass" in vars(one) else [[it] for it in cases]) if part]
         if not units and word not in GROUPS:
             print(f"checks/run: no check, case or group is named '{word}' (checks/run --list)", file=sys.stderr)
             return None
@@ -85,7 +88,7 @@ class Counts(unittest.TestResult):
 
 
 def run_unit(unit):
-    """Runs the cases of one class; what is said, and how many passed, failed and were left out."""
+    """Runs the cases of a unit; what is said, and how many passed, failed and were left out."""
     check, one, names = unit
     counts = Counts(check)
     unittest.TestSuite(one("test_" + name) for name in names).run(counts)
@@ -96,7 +99,7 @@ def results_of(units, processes):
     """The results as they come: first side by side, and then of what has to be alone."""
     together = [unit for unit in units if processes > 1 and not unit[1].alone]
     if together:
-        with multiprocessing.get_context("fork").Pool(processes, maxtasksperchild=1) as several:
+        with multiprocessing.get_context("fork").Pool(processes) as several:
             yield from several.imap_unordered(run_unit, together, chunksize=1)
     yield from map(run_unit, [unit for unit in units if unit not in together])
 

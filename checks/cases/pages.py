@@ -69,11 +69,12 @@ class Pages(Case):
             self.holds(member, member in there, f"{page}: there is no record with the member '{member}'")
 
     def test_files(self):
-        """Each page, script and check that a page or a script names is there."""
+        """Each page, script and check that a page or a script names is there: checks/NAME is a file or a check."""
         checks = runner.listed()
         for page in texts.files(*texts.PAGES) + ["Makefile", ".ci/run", "build", "mud"]:
             text = texts.read(page)
             for name in sorted({found.rstrip(".") for found in FILE.findall(text)} - {"fuzz/found"}):
-                self.holds(name, os.path.exists(os.path.join(texts.HERE, name)), f"{page}: there is no {name}")
+                there = os.path.exists(os.path.join(texts.HERE, name)) or name.removeprefix("checks/") in checks
+                self.holds(name, there, f"{page}: there is no {name}")
             for check in sorted(set(re.findall(r"\bchecks/run ([a-z][a-z-]*)", text))):
                 self.holds(check, check in {*checks, *checks.values()}, f"{page}: there is no check '{check}'")

@@ -33,7 +33,6 @@ test:
 
 checks: build
 	checks/run -j "$$(nproc)" gate checks minutes
-	bash checks/faulty-runs
 	bash checks/real-clients
 	bash checks/stopped-stores
 	bash checks/shown-commands

@@ -41,9 +41,6 @@ checks: build
 	bash checks/made-network
 	bash checks/hostile-inputs
 	checks/failing-calls
-	checks/second-reading crates/mud/out/mud 1 10000
-	checks/second-reading crates/mud/out/mud 2 10000 200
-	checks/exported-lists
 
 proofs:
 	@checks/print proofs

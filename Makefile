@@ -35,9 +35,7 @@ test:
 
 checks: build
 	checks/run -j "$$(nproc)" gate checks minutes
-	bash checks/real-clients
 	bash checks/stopped-stores
-	bash checks/shown-commands
 	bash checks/made-network
 	bash checks/hostile-inputs
 	checks/failing-calls
@@ -49,7 +47,7 @@ trusted:
 	@checks/print trusted
 
 limits: build
-	bash checks/far-limits
+	checks/run far-limits
 
 memory: build
 	checks/failing-allocations

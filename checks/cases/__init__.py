@@ -1,0 +1,1 @@
+"""A module for each check that checks/list names, with '_' for '-'."""

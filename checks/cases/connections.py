@@ -1,0 +1,48 @@
+"""Looks whether the connections of packets that are long ago take no memory, however many they were.
+
+A run that is given the least memory with which it judges 200 calls, in whole megabytes, and two more, judges 20,000
+calls a minute apart, and has too little for as many at once.
+"""
+import resource
+import struct
+
+from checks import program
+from checks.case import ProgramCase
+
+BULB = "https://lighting.example.com/lightbulb2000"
+SHA256 = "fde1333bdb4a776cc061761cd6a3b72458b458493e4ada81dc79bc7956eb2096"
+
+
+def calls(count, apart):
+    """A capture in which 192.0.2.10 calls port 443 of 198.51.100.7, each time from a port of its own and so many
+    seconds later."""
+    head = bytes.fromhex("0200000000fe0200000000010800" "4500002800010000400600" "00c000020ac6336407")
+    tail = bytes.fromhex("01bb" "0000000100000000" "5002ffff00000000")
+    return program.capture((1001 + n * apart, head + struct.pack(">H", 1024 + n) + tail) for n in range(count))
+
+
+class Connections(ProgramCase):
+    def judge(self, megabytes, capture):
+        """A run by at most so much memory: its status, and how many calls pass."""
+        limit = 1024 * 1024 * megabytes
+        ended = program.run("judge", self.path("store"), input=capture,
+                            preexec_fn=lambda: resource.setrlimit(resource.RLIMIT_AS, (limit, limit)))
+        return ended.status, ended.out.count(b" pass from=accept:1\n")
+
+    def test_memory(self):
+        requests = [
+            ("/hear/dhcp", program.read("examples/dhcp/made-url-and-more.bin")),
+            ("/files", program.read("examples/usage-files/made-lightbulb.json")),
+            ("/verdicts", f'{{"sha256":"{SHA256}","url":"{BULB}","verdict":"waived"}}'),
+            ("/leases", '{"address":"192.0.2.10","mac":"02:00:00:00:00:01","seconds":4294967295}'),
+            ("/names", '{"address":"198.51.100.7","name":"test.example.com","ttl":2147483647}')]
+        octets = b"".join(program.request("POST", target, body) for target, body in requests)
+        ended = program.run("replay", self.path("store"), input=octets)
+        self.note("what makes the store, answers", [200] * 5, [answer.status for answer in program.answers(ended.out)])
+        few = self.put("few", calls(200, 60))
+        limit = next((limit for limit in range(1, 1025) if self.judge(limit, few)[0] == 0), 1025)
+        self.note("200 calls, those that pass", (0, 200), self.judge(limit, few))
+        status, passing = self.judge(limit + 2, self.put("many", calls(20000, 60)))
+        self.note("20,000 calls a minute apart, status", 0, status)
+        self.note("20,000 calls a minute apart, those that pass", 20000, passing)
+        self.note("20,000 calls at once, status", 5, self.judge(limit + 2, self.put("many", calls(20000, 0)))[0])

@@ -1,0 +1,369 @@
+"""Runs the built program where its words, its input or its output are at fault, and measures how much it takes of its input."""
+import os
+import re
+import resource
+import shutil
+import signal
+import subprocess
+import threading
+import time
+
+from checks import program, texts
+from checks.case import ProgramCase, needs
+from checks.program import CLOSED, read, run
+
+MESSAGE = "examples/dhcp/made-lease.bin"
+FILE = "examples/usage-files/made-lightbulb.json"
+CAPTURE = "examples/captures/vlan-trunk.pcap"
+REQUESTS = "examples/console/first-requests.txt"
+STORE = "examples/judge/store.sql"
+FULL = "the output can't be written: No space left on device (os error 28)"
+BAD_OUTPUT = "the output can't be written: Bad file descriptor (os error 9)"
+BAD_INPUT = "the input can't be read: Is a directory (os error 21)"
+COMMANDS = "hear check frames judge snoop tally import report export replay serve drill".split()
+UNLISTED = [line.strip() for line in """
+    judge|judge -s|judge a b|tally|tally -t|tally a b|import|import a|import -a b|import a -b|import a b c|replay|replay -s
+    replay a b|report|report a|report a thing|report a Things|report a things b|report -a things|export|export a
+    export a 02:00:00:00:00|export a 02-00-00-00-00-01|export a 02:00:00:00:00:01 b|export -a 02:00:00:00:00:01|serve|serve a
+    serve a 8080|serve a 8080 1 1|serve -a 8080 1|serve a 0 1|serve a 65536 1|serve a 08080 1|serve a +8080 1|serve a 8080 0
+    serve a 8080 1000001|serve a 8080 -1|drill|drill 0|drill 01|drill 100001|drill -1|drill a|drill 1 1
+    drill 18446744073709551617|--help|--version|help|help judge|judge --help|check --|-- check
+    """.replace("\n", "|").split("|") if line.strip()]
+
+
+def sql(store, text):
+    """A store that sqlite3 makes or changes by this text."""
+    subprocess.run(["sqlite3", store], input=text.encode() if isinstance(text, str) else text, check=True)
+
+
+class FaultyRuns(ProgramCase):
+    def silent(self, what, status, ended):
+        """The status came and nothing was written."""
+        self.note(what + ", status", status, ended.status)
+        self.note(what + ", octets written", b"", ended.out)
+
+    def says(self, what, sentence, ended):
+        """Standard error was told this, and nothing else."""
+        self.note(what + ", what standard error is told", f"mud: {sentence}\n", ended.errors.decode())
+
+    def line(self, what, status, line, ended):
+        self.note(what + ", status", status, ended.status)
+        self.note(what + ", line", line + "\n", ended.out.decode())
+
+    def is_refused(self, what, status, sentence, ended):
+        self.silent(what, status, ended)
+        self.says(what, sentence, ended)
+
+    def is_full(self, what, *words, **more):
+        """The words end with 4 at a full device, and say so."""
+        ended = run(*words, out="/dev/full", **more)
+        self.note(what + " to a full device, status", 4, ended.status)
+        self.says(what + " to a full device", FULL, ended)
+
+    def is_closed(self, what, *words, **more):
+        ended = run(*words, out=CLOSED, **more)
+        self.note(what + " to a closed output, status", 4, ended.status)
+        self.says(what + " to a closed output", BAD_OUTPUT, ended)
+
+
+class Words(FaultyRuns):
+    """2: the words are no listed line. Nothing is read of the input, and the usage text is on standard error."""
+
+    def unlisted(self, what, *words):
+        ended = run(*words, input=MESSAGE, cwd=self.folder)
+        self.silent(what, 2, ended)
+        self.note(what + ", whether it says how to call the program", 1, len(re.findall(rb"^usage: mud ", ended.errors, re.M)))
+        return ended.errors.decode().replace(" hear lldp", " ")
+
+    def test_unlisted(self):
+        self.unlisted("no words")
+        self.unlisted("hear without a second word", "hear")
+        self.unlisted("three words", "hear", "dhcp", "dhcp")
+        self.unlisted("an empty word", "hear", "")
+        self.unlisted("an unlisted word", "Check")
+        self.unlisted("a word with a dash", "-h")
+        self.unlisted("a word that isn't UTF-8", "hear", b"dhcp\xff")
+        self.unlisted("one word that isn't UTF-8", b"\xc3")
+        for words in UNLISTED:
+            self.unlisted(words, *words.split())
+        self.unlisted("judge with an empty word", "judge", "")
+        self.unlisted("import with an empty word", "import", self.path("none"), "")
+        self.unlisted("serve with an empty word", "serve", "", "8080", "1")
+        self.note("whether words that are no listed line make a store", [], os.listdir(self.folder))
+
+    def test_usage(self):
+        text = self.unlisted("drill with an empty word", "drill", "")
+        for command in COMMANDS:
+            self.note(f"lines of the usage text on {command}", 1, len(re.findall(rf"^ *{command}(?: |$)", text, re.M)))
+        self.note("octets left where the words are no listed line", os.path.getsize(FILE), run("chekc", input=FILE).left)
+
+
+class Input(FaultyRuns):
+    """3: the input breaks a rule; the line is the fault's."""
+
+    def test_empty(self):
+        self.line("an empty message", 3, "fault Cut 0", run("hear", "dhcp"))
+        self.line("an empty capture", 3, "fault Cut 0", run("frames"))
+        self.line("an empty usage file", 3, "fault Json", run("check"))
+        self.line("an empty capture that is judged", 3, "fault Cut 0", run("judge", ":memory:"))
+
+    def test_longest_packets(self):
+        """64 packets of 262,144 octets, and the head of one that is longer."""
+        octets = program.capture([(0, bytes(262144))] * 64)
+        ended = run("judge", ":memory:", input=octets)
+        self.note("the longest packets, status", 0, ended.status)
+        self.note("the longest packets, lines", "".join(f"{n} 0 pass unmanaged\n" for n in range(1, 65)), ended.out.decode())
+        ended = run("judge", ":memory:", input=octets + bytes(8) + (262145).to_bytes(4, "little") * 2)
+        self.note("a packet that is longer, status", 3, ended.status)
+        self.note("a packet that is longer, line", b"fault Long 16778264", ended.out.splitlines()[-1])
+
+    def test_snoop_without_server(self):
+        ended = run("snoop", ":memory:", input=CAPTURE)
+        self.note("status", 0, ended.status)
+        self.note("lines", run("judge", ":memory:", input=CAPTURE).out, ended.out)
+        self.says("snoop", "no name could be learnt: no address is bound to urn:ietf:params:mud:dns", ended)
+
+    def test_import(self):
+        os.mkdir(self.path("files"))
+        self.silent("import of an empty folder", 0, run("import", ":memory:", self.path("files")))
+        self.put("files/1000-empty.json", b"")
+        self.line("import of a refused file", 3, "1000-empty.json refused 2 Json", run("import", ":memory:", self.path("files")))
+
+
+class Failures(FaultyRuns):
+    """4: reading the input or writing the lines failed."""
+
+    def test_streams(self):
+        frame = "examples/lldp/lldpd-mud-01.bin"
+        for words, path in (("hear dhcp", MESSAGE), ("hear lldp", frame), ("check", FILE), ("frames", CAPTURE),
+                            ("judge :memory:", CAPTURE), ("replay :memory:", REQUESTS)):
+            self.is_full(words, *words.split(), input=path)
+            self.is_closed(words, *words.split(), input=path)
+            self.is_refused(f"{words} of a closed input", 4, BAD_INPUT, run(*words.split(), input=CLOSED))
+            self.is_refused(f"{words} of a folder", 4, BAD_INPUT, run(*words.split(), input="examples"))
+        ended = run("frames", input=CAPTURE)
+        self.note("a whole capture, status", 0, ended.status)
+        self.note("a whole capture, lines", 44, ended.out.count(b"\n"))
+        self.is_full("drill", "drill", "1")
+
+    def test_reports(self):
+        store, thing = self.path("store"), "02:00:00:00:00:01"
+        ended = run("report", ":memory:", "things", out="/dev/full")
+        self.note("report of an empty table to a full device, status", 0, ended.status)
+        self.note("replay into a store, status", 0, run("replay", store, input=REQUESTS).status)
+        self.line("report of a store", 0, "local 192.0.2.0/24", run("report", store, "locals", input=CLOSED))
+        self.is_full("report", "report", store, "locals")
+        self.line("export of no Thing", 3, "fault NoThing", run("export", store, thing, input=CLOSED))
+        self.is_full("export of no Thing", "export", store, thing)
+        self.is_closed("report", "report", store, "locals")
+
+    def test_answers(self):
+        """Where an answer can't be written, its request stays carried out, and none behind it is."""
+        store = self.path("store")
+        two = (program.request("PUT", "/locals", '{"prefixes":["192.0.2.0/25"]}', 5)
+               + program.request("POST", "/classes", '{"address":"192.0.2.53","class":"urn:ietf:params:mud:dns"}', 6))
+        self.is_full("replay of two requests", "replay", store, input=two)
+        self.note("the first one's networks", b"local 192.0.2.0/25\n", run("report", store, "locals").out)
+        self.silent("the second one's classes", 0, run("report", store, "classes"))
+
+    def test_folders(self):
+        os.makedirs(self.path("other/1-folder.json"))
+        os.mkdir(self.path("files"))
+        self.put("files/1000-empty.json", b"")
+        self.is_full("import", "import", ":memory:", self.path("files"))
+        self.is_closed("import", "import", ":memory:", self.path("files"))
+        for what, path, sentence in (
+                ("a folder that isn't there", self.path("none"), "the folder can't be read: No such file or directory (os error 2)"),
+                ("a file in a folder's place", FILE, "the folder can't be read: Not a directory (os error 20)"),
+                ("a folder in a file's place", self.path("other"), "a file of the folder can't be read: Is a directory (os error 21)")):
+            self.is_refused("import of " + what, 4, sentence, run("import", ":memory:", path))
+
+
+@needs("sqlite3")
+class Items(FaultyRuns):
+    """6: an item of the store is no record. Then the input isn't read."""
+
+    def unread(self, what, line, path, *words):
+        """The line, with 6, and nothing is taken of the input."""
+        ended = run(*words, input=path)
+        self.line(what, 6, line, ended)
+        self.note(what + ", octets left", os.path.getsize(path), ended.left)
+
+    def test_bad_item(self):
+        bad, files, fault = self.path("bad"), self.path("files"), "fault item 1 020000000001"
+        os.mkdir(files)
+        sql(bad, read(STORE))
+        sql(bad, "UPDATE item SET body = X'' WHERE kind = 1")
+        self.unread("a store with a bad item", fault, CAPTURE, "judge", bad)
+        self.is_full("a store with a bad item", "judge", bad, input=CAPTURE)
+        self.line("import into a store with a bad item", 6, fault, run("import", bad, files))
+        for words in (("replay", bad), ("report", bad, "names"), ("serve", bad, "8080", "1")):
+            self.unread(f"{words[0]} with a bad item", fault, REQUESTS, *words)
+
+    def test_last_octet(self):
+        """A Thing's record of the present form whose last octet is neither 0 nor 1."""
+        last = self.path("last")
+        sql(last, read(STORE))
+        sql(last, "UPDATE item SET body = CAST(X'02' || substr(body, 2) || X'02' AS BLOB) WHERE kind = 1")
+        self.line("a record that ends with 2", 6, "fault item 1 020000000001", run("report", last, "things"))
+
+    def test_bad_stamp(self):
+        """Of several bad items the first is named, and one with an empty key without a key."""
+        sql(self.path("stamp"), "CREATE TABLE item (kind INTEGER NOT NULL, name BLOB NOT NULL, body BLOB NOT NULL, "
+            "PRIMARY KEY (kind, name)) STRICT; INSERT INTO item VALUES (6, X'', X'01'), (7, X'00', X'01')")
+        self.line("a store with a bad stamp", 6, "fault item 6", run("report", self.path("stamp"), "things"))
+
+
+class Keeper(FaultyRuns):
+    """7: the keeper of the store failed. Then the input isn't read, and standard error is told which cause it was."""
+
+    def refused(self, store, sentence):
+        """Each command ends so with this store."""
+        ended = run("judge", store, input=CAPTURE)
+        self.is_refused("judge", 7, f"{store}: {sentence}", ended)
+        self.note("judge, octets left", os.path.getsize(CAPTURE), ended.left)
+        os.makedirs(self.path("files"), exist_ok=True)
+        for words in (("import", store, self.path("files")), ("replay", store), ("report", store, "due"), ("serve", store, "8080", "1")):
+            self.is_refused(words[0], 7, f"{store}: {sentence}", run(*words, input=REQUESTS))
+
+    def test_no_folder(self):
+        self.refused(self.path("none/store"), "the store can't be opened: its folder isn't there, or the file may not be read and written")
+
+    def test_folder(self):
+        self.refused(self.folder, "the store can't be opened: its folder isn't there, or the file may not be read and written")
+
+    def test_text(self):
+        self.refused(self.put("text", (b"no store\n" * 600)[:5000]), "it is no store, or it is damaged")
+
+    @needs("sqlite3")
+    def test_other_database(self):
+        sql(self.path("notes"), "CREATE TABLE note (id INTEGER PRIMARY KEY) STRICT")
+        self.refused(self.path("notes"), "it is no store, or it is damaged")
+
+    def test_used(self):
+        used = self.path("used")
+        with subprocess.Popen([program.PROGRAM, "replay", used], stdin=subprocess.PIPE, stdout=subprocess.PIPE) as holder:
+            holder.stdin.write(read(REQUESTS)[:1])
+            holder.stdin.flush()
+            program.until(lambda: os.path.exists(used + "-wal") and os.path.getsize(used + "-wal"))
+            self.refused(used, "another program uses the store")
+            holder.communicate()
+
+    def test_no_room(self):
+        """No file of the process may be longer than 8 kB, and a change needs more of the log."""
+        def limited():
+            signal.signal(signal.SIGXFSZ, signal.SIG_IGN)
+            resource.setrlimit(resource.RLIMIT_FSIZE, (8192, 8192))
+
+        store = self.path("small")
+        self.silent("report of a new store", 0, run("report", store, "things"))
+        ended = run("replay", store, input=REQUESTS, preexec_fn=limited)
+        self.note("replay into a store that can't grow, status", 0, ended.status)
+        self.note("replay into a store that can't grow, answer", b"HTTP/1.1 503 Service Unavailable", ended.out.split(b"\r\n")[0])
+        self.says("replay into a store that can't grow", f"{store}: the disk failed", ended)
+
+    @needs("unshare")
+    def test_full_disk(self):
+        """A file system of 100 kB, where one can be mounted for this command alone."""
+        disk = self.path("disk")
+        os.mkdir(disk)
+        words = ["-m", "sh", "-c", 'mount -t tmpfs -o size=100k tmpfs "$1" && shift && exec "$@"', "-", disk]
+        if run(*words, "true", program="unshare").status != 0:
+            self.skipTest("no file system can be mounted here")
+        ended = run(*words, program.PROGRAM, "replay", f"{disk}/store", input=REQUESTS, program="unshare")
+        self.is_refused("replay into a store on a full disk", 7, f"{disk}/store: the disk is full", ended)
+
+
+class Taken(FaultyRuns):
+    """At most one octet more is taken than a message or a usage file has. What is behind it stays for the next reader."""
+
+    SIZE = 400000
+
+    def test_file(self):
+        zeros = self.put("zeros", bytes(self.SIZE))
+        for words, most, line in (("hear dhcp", 65536, "fault Long\n"), ("hear lldp", 65536, None), ("check", 262145, "fault TooLong\n")):
+            ended = run(*words.split(), input=zeros)
+            self.note(f"octets taken by {words}", most, self.SIZE - ended.left)
+            if line:
+                self.note(f"the line of {words}", line, ended.out.decode())
+
+    def test_slow_pipe(self):
+        for words, most in (("hear dhcp", 65536), ("check", 262145)):
+            reader, writer = os.pipe()
+
+            def give(writer=writer):
+                for _ in range(4):
+                    os.write(writer, bytes(self.SIZE // 4))
+                    time.sleep(0.1)
+                os.close(writer)
+
+            giver = threading.Thread(target=give)
+            giver.start()
+            subprocess.run([program.PROGRAM, *words.split()], stdin=reader, stdout=subprocess.DEVNULL, check=False)
+            left = sum(map(len, iter(lambda: os.read(reader, 65536), b"")))
+            giver.join()
+            os.close(reader)
+            self.note(f"octets taken by {words} of a slow pipe", most, self.SIZE - left)
+
+
+STAND_IN = """#!/bin/sh
+[ "$1" = ci ] || exit 1
+[ ! -e crates/mud_base/must-fail ] && [ -e crates/mud_base/src ] && echo "rt: mud_base proved"
+if [ "$STATUS" = 0 ]; then
+  mkdir -p crates/mud/out
+  printf '#!/bin/sh\\n' >crates/mud/out/mud
+  chmod +x crates/mud/out/mud
+fi
+exit "$STATUS"
+"""
+
+
+class Scripts(FaultyRuns):
+    """./mud and ./build in a clone, without the toolchain and with a stand-in of it."""
+
+    def setUp(self):
+        super().setUp()
+        for crate in texts.below("mud"):
+            for part in ("src", "must-fail"):
+                os.makedirs(self.path(f"clone/crates/{crate}/{part}"))
+        os.mkdir(self.path("clone/checks"))
+        for name in texts.files("mud", "build", "crates.txt", "HANDLES", "checks/print", "checks/*.py"):
+            shutil.copy(name, self.path("clone/" + name))
+        os.mkdir(self.path("bin"))
+        for tool in ("sh", "dirname", "find", "head", "mktemp", "rm"):
+            os.symlink(shutil.which(tool), self.path("bin/" + tool))
+
+    def test_without_toolchain(self):
+        """A status of its own, and a sentence that says what to install."""
+        environment = {"PATH": self.path("bin")}
+        ended = run("check", input=FILE, program=self.path("clone/mud"), env=environment)
+        self.silent("./mud without rt", 127, ended)
+        self.holds("./mud without rt, what to install", b"install the Rattle toolchain" in ended.errors)
+        self.silent("./build without rt", 127, run(program=self.path("clone/build"), env=environment))
+
+    def build(self, status):
+        os.mkdir(self.path("with-rt"))
+        os.chmod(self.put("with-rt/rt", STAND_IN.encode()), 0o755)
+        path = self.path("with-rt") + ":" + os.environ["PATH"]
+        return run(program=self.path("clone/build"), env={**os.environ, "STATUS": status, "PATH": path})
+
+    def test_build(self):
+        """A stand-in that says that it proved a crate, and makes a program where it is told to."""
+        ended, count = self.build("0"), len(texts.below("mud"))
+        self.silent("./build", 0, ended)
+        said = ended.errors.decode().splitlines()
+        self.note("the first line", f"build: proving {count} crates, as many side by side as there are processors and memory",
+                  said[0].partition(";")[0])
+        self.note("the lines of crates", [f"build: 1 of {count} crates are proved (mud_base)"], [one for one in said if " are proved " in one])
+        self.note("the last line", "build: done", said[-1])
+
+    def test_build_unproved(self):
+        self.silent("./build where a crate isn't proved", 1, self.build("1"))
+        self.holds("there is no program", not os.path.exists(self.path("clone/crates/mud/out/mud")))
+
+    def test_built(self):
+        """Where it is built and nothing is newer: the program's own status, without the toolchain."""
+        os.mkdir(self.path("clone/crates/mud/out"))
+        shutil.copy(program.PROGRAM, self.path("clone/crates/mud/out/mud"))
+        ended = run("hear", "dhcp", input=MESSAGE, program=self.path("clone/mud"), env={"PATH": self.path("bin")})
+        self.line("./mud of a built program", 0, "lease 02:00:00:00:00:01 192.0.2.10 86400", ended)

@@ -1,0 +1,53 @@
+"""Looks for names that went, by checks/words.list, in the code and the edits of crates/ and plants/, in docs/ and README.md.
+
+In code, comments included, a name is a whole run of letters, digits and '_'. In a page it counts between back
+quotes, and elsewhere where it can be no plain word: with a '_' in it, or a capital behind its first letter.
+"""
+import collections
+import re
+
+from checks import texts
+from checks.case import Case
+
+CODE = [f"{folder}/**/*.{end}" for folder in ("crates", "plants") for end in ("rt", "antt", "edit")]
+NAME = re.compile(r"[A-Za-z0-9_]+")
+
+
+def names_that_went():
+    """For each crate, or '*', and name that went the one that stands in its place."""
+    rows = [line.split() for line in texts.lines("checks/words.list") if line and not line.startswith("#")]
+    return {(crate, row[0]): row[1] for row in rows for crate in (row[2].split(",") if len(row) == 3 else ["*"])}
+
+
+def names_on(page):
+    """The names of a page that count, each with its line."""
+    for number, line in enumerate(texts.lines(page), 1):
+        for place, part in enumerate(line.split("`")):
+            for name in NAME.findall(part):
+                if place % 2 or re.search(r"_|.[A-Z]", name):
+                    yield number, name
+
+
+def found_names(wanted):
+    """Where names stand: for each crate or '*' and name the places."""
+    found = collections.defaultdict(list)
+    for path in texts.files(*CODE):
+        text = texts.read(path)
+        there = wanted.intersection(NAME.findall(text))
+        for number, line in enumerate(text.split("\n") if there else [], 1):
+            for name in there.intersection(NAME.findall(line)):
+                found[path.split("/")[1], name].append(f"{path}:{number}")
+                found["*", name].append(f"{path}:{number}")
+    for page in texts.files("README.md", "docs/*.md"):
+        for number, name in names_on(page):
+            found["*", name].append(f"{page}:{number}")
+    return found
+
+
+class Words(Case):
+    def test_words(self):
+        went = names_that_went()
+        found = found_names({name for _, name in went})
+        for (crate, name), now in went.items():
+            places = [place for place in found[crate, name] if crate != "*" or (place.split("/")[1], name) not in went]
+            self.holds(name, not places, "".join(f"\n{place}: {name} is now {now}" for place in places))

@@ -1,0 +1,198 @@
+"""The built program: runs of it, its console, and what is sent to it. MUD names another one."""
+import collections
+import contextlib
+import os
+import re
+import shutil
+import socket
+import struct
+import subprocess
+import time
+
+from checks.texts import HERE
+
+PROGRAM = os.path.abspath(os.environ.get("MUD", os.path.join(HERE, "crates/mud/out/mud")))
+CLOSED = object()
+SECONDS = 120
+
+# a run: its status, the octets of standard output and of standard error, and how many of its input's file are left
+Ended = collections.namedtuple("Ended", "status out errors left")
+
+
+def run(*words, input=b"", out=None, program=PROGRAM, **more):
+    """Runs the program to its end. The input is octets, the path of a file, or CLOSED; what it writes goes to the
+    file at the path 'out', or nowhere where that is CLOSED. More are words of subprocess.Popen."""
+    closed = [number for number, stream in ((0, input), (1, out)) if stream is CLOSED]
+    more = {"preexec_fn": lambda: list(map(os.close, closed)), **more} if closed else more
+    with contextlib.ExitStack() as opened:
+        file = opened.enter_context(open(input, "rb") if not os.path.isdir(input) else folder_at(input)) if isinstance(input, str) else None
+        taker = subprocess.PIPE if out is None else None if out is CLOSED else opened.enter_context(open(out, "wb"))
+        given = file if file else None if input is CLOSED else subprocess.PIPE
+        ran = subprocess.Popen([program, *words], stdin=given, stdout=taker, stderr=subprocess.PIPE, **more)
+        try:
+            written, errors = ran.communicate(input if isinstance(input, bytes) else None, timeout=SECONDS)
+        except subprocess.TimeoutExpired:
+            ran.kill()
+            ran.communicate()
+            raise AssertionError(f"it goes on after {SECONDS} seconds: {words}") from None
+        is_file = file and os.path.isfile(input)
+        left = os.path.getsize(input) - os.lseek(file.fileno(), 0, os.SEEK_CUR) if is_file else None
+    return Ended(ran.returncode, written, errors, left)
+
+
+def run_in_pieces(pieces, *words, pause=0.01):
+    """The same of an input that comes in pieces, with a pause between two."""
+    with subprocess.Popen([PROGRAM, *words], stdin=subprocess.PIPE, stdout=subprocess.PIPE, bufsize=0) as ran:
+        with contextlib.suppress(BrokenPipeError):
+            for number, piece in enumerate(pieces):
+                time.sleep(pause if number else 0)
+                ran.stdin.write(piece)
+        ran.stdin.close()
+        written = ran.stdout.read()
+    return Ended(ran.returncode, written, b"", None)
+
+
+@contextlib.contextmanager
+def folder_at(path):
+    """A descriptor of a folder."""
+    number = os.open(path, os.O_RDONLY)
+    try:
+        yield number
+    finally:
+        os.close(number)
+
+
+# ---- Requests and answers
+
+def request(method, target, body=b"", moment=1000):
+    """A request of the console; one without a moment has no header of it, and a GET no length."""
+    body = body if isinstance(body, bytes) else body.encode()
+    head = f"{method} {target} HTTP/1.1\r\n" + (f"Mud-Moment: {moment}\r\n" if moment is not None else "")
+    return (head + (f"Content-Length: {len(body)}\r\n" if method != "GET" else "") + "\r\n").encode() + body
+
+
+Answer = collections.namedtuple("Answer", "status closes body octets")
+
+
+def answers(octets):
+    """The answers that octets have, each whole."""
+    found = []
+    while octets:
+        head, end, rest = octets.partition(b"\r\n\r\n")
+        length = int(re.search(rb"\r\nContent-Length: ([0-9]+)", head)[1]) if end else 0
+        whole = octets[:len(head) + len(end) + length]
+        found.append(Answer(int(head.split()[1]), b"\r\nConnection: close" in head, rest[:length], whole))
+        octets = rest[length:]
+    return found
+
+
+def sent(port, octets, ends=True):
+    """What comes back of a connection on which the octets are sent, up to its end."""
+    with socket.create_connection(("127.0.0.1", port), timeout=SECONDS) as client:
+        client.sendall(octets)
+        if ends:
+            client.shutdown(socket.SHUT_WR)
+        return b"".join(iter(lambda: client.recv(65536), b""))
+
+
+# ---- The console at a port
+
+def free_port():
+    """A port of 127.0.0.1 that is free."""
+    with socket.socket() as one:
+        one.bind(("127.0.0.1", 0))
+        return one.getsockname()[1]
+
+
+def listens(port):
+    """Whether somebody does."""
+    with open("/proc/net/tcp", encoding="ascii") as table:
+        rows = [line.split() for line in list(table)[1:]]
+    return any(row[1].endswith(f":{port:04X}") and row[3] == "0A" for row in rows)
+
+
+def until(holds, seconds=10.0, pause=0.01):
+    """Waits until something holds, and says whether it does."""
+    end = time.monotonic() + seconds
+    while not (truth := holds()) and time.monotonic() < end:
+        time.sleep(pause)
+    return truth
+
+
+class Server:
+    """The program, which serves so many connections over a store: with Server(1) as server: .. server.port .."""
+
+    def __init__(self, count, store=":memory:", program=PROGRAM):
+        self.words, self.program = (count, store), program
+
+    def __enter__(self):
+        count, store = self.words
+        for _ in range(9):
+            self.port = free_port()
+            self.process = subprocess.Popen([self.program, "serve", store, str(self.port), str(count)],
+                                            stdin=subprocess.DEVNULL, stdout=subprocess.PIPE, stderr=subprocess.PIPE)
+            until(lambda: listens(self.port) or self.process.poll() is not None)
+            if self.process.poll() is None:
+                return self
+            self.process.communicate()
+        raise AssertionError("the program listens on no port")
+
+    def __exit__(self, *_):
+        self.kill()
+
+    def kill(self):
+        """Ends it, and gives what it has printed."""
+        self.process.kill()
+        return self.process.communicate()[0]
+
+    def ended(self, case, what):
+        """It has served all: two comparisons of the case, that its status is 0 and that it has printed nothing."""
+        with contextlib.suppress(subprocess.TimeoutExpired):
+            self.process.wait(timeout=10)
+        case.note(what + ", status", 0, self.process.poll())
+        case.note(what + ", octets printed", b"", self.kill())
+
+
+# ---- Captures and stores
+
+def capture(packets, link=1):
+    """A capture in the classic format of packets, each its second and its octets."""
+    head = struct.pack("<IHHIIII", 0xA1B2C3D4, 2, 4, 0, 0, 262144, link)
+    return head + b"".join(struct.pack("<IIII", second, 0, len(octets), len(octets)) + octets for second, octets in packets)
+
+
+def packet_ends(octets):
+    """The offsets behind the header of a capture in the classic format and behind each packet that is whole."""
+    ends = [24]
+    while ends[-1] + 16 <= len(octets):
+        end = ends[-1] + 16 + int.from_bytes(octets[ends[-1] + 8:ends[-1] + 12], "little")
+        if end > len(octets):
+            break
+        ends.append(end)
+    return ends
+
+
+def clear_store(store):
+    """Takes a store's files away."""
+    for end in ("", "-wal", "-shm", "-journal"):
+        with contextlib.suppress(FileNotFoundError):
+            os.remove(store + end)
+
+
+def copy_store(store, to):
+    """Copies a store with the file of its log."""
+    clear_store(to)
+    for end in ("", "-wal"):
+        if os.path.exists(store + end):
+            shutil.copy(store + end, to + end)
+
+
+def read(name, folder=HERE):
+    """The octets of a file, by its path below the top."""
+    with open(os.path.join(folder, name), "rb") as file:
+        return file.read()
+
+
+def table(path):
+    """The rows of a table of examples, without its first line."""
+    return [line.split("\t") for line in read(path).decode().split("\n")[1:] if line]

@@ -97,8 +97,8 @@ def entries(*written, version=4, side="from", **more):
 
 def lines_of(*paths, words=()):
     """Status and lines of a run of explain."""
-    run = subprocess.run([sys.executable, explaining.SCRIPT, *words, "--mud", PROGRAM, *paths], stdout=subprocess.PIPE,
-                         stderr=subprocess.PIPE, check=False)
+    command = [sys.executable, explaining.SCRIPT, *words, "--mud", PROGRAM, *paths]
+    run = subprocess.run(command, stdout=subprocess.PIPE, stderr=subprocess.PIPE, check=False)
     return run.returncode, run.stdout.decode(), run.stderr.decode()
 
 
@@ -170,9 +170,9 @@ class Sentences(ProgramCase):
     def test_defaults(self):
         """The entries of every Thing, also behind no entry of a file."""
         file = explained(octets_of(usage_file([])))
-        for side, form in (("from", "The Thing may send UDP over IPv4 and IPv6 from any port of its own to port {} of an address of the class \"{}\"."),
-                           ("to", "The Thing may receive UDP over IPv4 and IPv6 at any port of its own from port {} of an address of the class \"{}\".")):
-            wanted = [form.format("53 (domain)", "urn:ietf:params:mud:dns"), form.format("123 (ntp)", "urn:ietf:params:mud:ntp")]
+        for side, way in (("from", "send UDP over IPv4 and IPv6 from any port of its own to"), ("to", "receive UDP over IPv4 and IPv6 at any port of its own from")):
+            wanted = [f'The Thing may {way} port {port} of an address of the class "urn:ietf:params:mud:{rule}".'
+                      for port, rule in (("53 (domain)", "dns"), ("123 (ntp)", "ntp"))]
             self.note(side, wanted, [entry["words"] for entry in file["defaults"][side]])
         self.note("the rest", "Everything else that the Thing sends is dropped, also ping, HTTP to port 80, HTTPS to port 443 and SSH to port 22.",
                   file["rest"]["from"])
@@ -235,16 +235,18 @@ class Remarks(ProgramCase):
         model, maker = {MUD: {"model": "https://a.example/b"}}, {MUD: {"manufacturer": "a.example"}}
         own = {MUD: {"same-manufacturer": None}}
         first = {MUD: {"manufacturer": "lighting.example.com"}, "tcp": {"flags": "syn", "ietf-mud:direction-initiated": "from-device"}}
-        for one, other, wanted in ((tcp, https, True), (https, tcp, False), ({"ipv4": {"protocol": 6}}, tcp, True), (tcp, {"ipv4": {"protocol": 6}}, False),
-                                   (wider, network, True), (network, wider, False), (maker, model, True), (model, maker, False), (own, first, True),
-                                   ({}, maker, True), ({"ipv4": {"source-ipv4-network": "0.0.0.0/0"}}, {}, True), ({"tcp": {"flags": "syn"}}, first, True),
-                                   ({"tcp": {"source-port": {"operator": "neq", "port": 5}}}, {"tcp": {"source-port": {"lower-port": 4, "upper-port": 6}}}, False),
-                                   ({"icmp": {"type": 8}}, {"icmp": {"type": 8, "code": 0}}, True), ({"ipv4": {"dscp": 1}}, {"ipv4": {"dscp": 2}}, False)):
+        but_5, around_5 = {"operator": "neq", "port": 5}, {"lower-port": 4, "upper-port": 6}
+        for one, other, wanted in (
+                (tcp, https, True), (https, tcp, False), ({"ipv4": {"protocol": 6}}, tcp, True), (tcp, {"ipv4": {"protocol": 6}}, False),
+                (wider, network, True), (network, wider, False), (maker, model, True), (model, maker, False), (own, first, True),
+                ({}, maker, True), ({"ipv4": {"source-ipv4-network": "0.0.0.0/0"}}, {}, True), ({"tcp": {"flags": "syn"}}, first, True),
+                ({"tcp": {"source-port": but_5}}, {"tcp": {"source-port": around_5}}, False),
+                ({"icmp": {"type": 8}}, {"icmp": {"type": 8, "code": 0}}, True), ({"ipv4": {"dscp": 1}}, {"ipv4": {"dscp": 2}}, False)):
             for action in ("accept", "drop"):
                 said = kinds_of(entries((one, action), (other, "accept")))[1]
                 self.note(f"{action} {json.dumps(one)}, then {json.dumps(other)}", wanted, "pointless" in said)
-        self.note("of the other side", [[]], kinds_of([explained(octets_of(usage_file(
-            [("from", 4, [ace("e", {"udp": {}, "ipv4": wider["ipv4"]})]), ("to", 4, [ace("e", {"udp": {}, "ipv4": {"source-ipv4-network": "192.0.2.0/24"}})])])))["to"][0]]))
+        lists = [("from", 4, [ace("e", wider)]), ("to", 4, [ace("e", {"ipv4": {"source-ipv4-network": "192.0.2.0/24"}})])]
+        self.note("of the other side", [[]], kinds_of(explained(octets_of(usage_file(lists)))["to"]))
         said = entries((tcp, "accept"), (https, "drop"))[1]["remarks"][0]
         self.note("its words", "It never decides: from 1 before it matches all that it matches.", said["words"])
 
@@ -311,7 +313,8 @@ class Changes(ProgramCase):
 
     def test_head(self):
         old = self.put("old.json", octets_of(usage_file([])))
-        new = self.put("new.json", octets_of(usage_file([("from", 4, [ace("e", {MUD: {"controller": HUB}})])], URL + "1", **{"cache-validity": 3})))
+        lists = [("from", 4, [ace("e", {MUD: {"controller": HUB}})])]
+        new = self.put("new.json", octets_of(usage_file(lists, URL + "1", **{"cache-validity": 3})))
         change = json.loads(lines_of(old, new, words=["--json"])[1])
         self.note("what it says of itself", ["url", "hours"], [each["member"] for each in change["head"]])
         self.note("what is to be bound", [HUB], [need["value"] for need in change["needs"]])
@@ -323,17 +326,20 @@ class Refusals(ProgramCase):
         tcp = '"tcp": {"source-port": {"port": 5}, "flags": "syn"}'
         matches = json.loads("{" + tcp + ', "ipv4": {"protocol": 6}}')
         whole = octets_of(usage_file([("from", 4, [ace("e", matches)])], extensions=[])).decode()
+        number, port = '"protocol": 6', '"port": 5'
         edits = {
-            "Missing": ('"is-supported": true, ', ""), "WrongKind": ('"extensions": []', '"extensions": {}'), "Version": ('"mud-version": 1', '"mud-version": 2'),
-            "Url": ("https://", "http://"), "Update": ("2019-01-28", "2019-02-30"), "Validity": ('"extensions": []', '"cache-validity": 0'),
-            "NoSuchAcl": ('{"access-list": [{"name": "from4"}', '{"access-list": [{"name": "none"}'), "AclType": ("ipv4-acl-type", "mixed"),
-            "UnknownMatch": ('"flags"', '"fl~a/g\\u00fcs"'), "TwoLayers": ('"ipv4"', '"udp": {}, "ipv4"'), "PortRange": ('"port": 5', '"port": 5, "lower-port": 1'),
-            "NameSide": ('"protocol": 6', '"ietf-acldns:src-dnsname": "a"'), "DirectionNotTcp": (tcp, '"udp": {"ietf-mud:direction-initiated": 1}'),
-            "Action": ('"accept"', '"pass"'), "NameText": ('"protocol": 6', '"ietf-acldns:dst-dnsname": "-"'),
-            "RepeatedName": ('[{"name": "from4"}', '[{"name": "from4"}, {"name": "from4"}'), "Family": ('"ipv4":', '"ipv6":'),
-            "PrefixText": ('"protocol": 6', '"source-ipv4-network": "1.2.3.4"'), "Range": ('"protocol": 6', '"protocol": 256'),
-            "DirectionText": ('"flags": "syn"', '"ietf-mud:direction-initiated": "both"'), "Operator": ('"port": 5', '"operator": "lt", "port": 5'),
-            "FlagText": ('"syn"', '"sin"')}
+            "Missing": ('"is-supported": true, ', ""), "WrongKind": ('"extensions": []', '"extensions": {}'),
+            "Version": ('"mud-version": 1', '"mud-version": 2'), "Url": ("https://", "http://"), "Update": ("2019-01-28", "2019-02-30"),
+            "Validity": ('"extensions": []', '"cache-validity": 0'), "AclType": ("ipv4-acl-type", "mixed"),
+            "NoSuchAcl": ('{"access-list": [{"name": "from4"}', '{"access-list": [{"name": "none"}'),
+            "UnknownMatch": ('"flags"', '"fl~a/g\\u00fcs"'), "TwoLayers": ('"ipv4"', '"udp": {}, "ipv4"'),
+            "PortRange": (port, '"port": 5, "lower-port": 1'), "NameSide": (number, '"ietf-acldns:src-dnsname": "a"'),
+            "DirectionNotTcp": (tcp, '"udp": {"ietf-mud:direction-initiated": 1}'), "Action": ('"accept"', '"pass"'),
+            "NameText": (number, '"ietf-acldns:dst-dnsname": "-"'), "Family": ('"ipv4":', '"ipv6":'),
+            "RepeatedName": ('[{"name": "from4"}', '[{"name": "from4"}, {"name": "from4"}'),
+            "PrefixText": (number, '"source-ipv4-network": "1.2.3.4"'), "Range": (number, '"protocol": 256'),
+            "DirectionText": ('"flags": "syn"', '"ietf-mud:direction-initiated": "both"'),
+            "Operator": (port, '"operator": "lt", "port": 5'), "FlagText": ('"syn"', '"sin"')}
         for rule, (old, new) in edits.items():
             self.holds(f"{rule}, the edit", old in whole, f"there is no {old}")
             self.refused(rule, json.dumps(json.loads(whole.replace(old, new)), indent=1))
@@ -346,7 +352,8 @@ class Refusals(ProgramCase):
         self.holds(f"{rule}, its words", explaining.EXPLAIN.SAYS["refusal"]["rule"][rule] in said["words"], said["words"])
         line = text.split("\n")[said["line"] - 1][said["column"] - 1:]
         step = json.dumps(explaining.EXPLAIN.steps_of(said["path"])[-1])
-        self.holds(f"{rule}, its place", line.startswith(step) or rule == "Missing" or (line.startswith("{") and step[1:-1].isdigit()), f"{step}: {line}")
+        is_there = line.startswith(step) or rule == "Missing" or (line.startswith("{") and step[1:-1].isdigit())
+        self.holds(f"{rule}, its place", is_there, f"{step}: {line}")
 
     def test_whole_files(self):
         """What is wrong with a file as a whole."""
@@ -377,11 +384,9 @@ class Refusals(ProgramCase):
 
     def test_what_fails(self):
         """What can't be read or run, and words that are none."""
-        for paths, words, status in ((["nowhere.json"], [], 1), (["examples/usage-files/made-lightbulb.json"], ["--mud", "./nowhere"], 1),
-                                     ([], [], 2), (["a", "b", "c"], [], 2), (["a"], ["--what"], 2)):
-            run = subprocess.run([sys.executable, explaining.SCRIPT, "--mud", PROGRAM, *words, *paths], stdout=subprocess.PIPE,
-                                 stderr=subprocess.PIPE, check=False)
-            self.note(f"{words} {paths}", (status, b""), (run.returncode, run.stdout))
+        bulb = "examples/usage-files/made-lightbulb.json"
+        for words, status in ((["nowhere.json"], 1), ([bulb, "--mud", "./nowhere"], 1), ([], 2), (["a", "b", "c"], 2), (["a", "--what"], 2)):
+            self.note(str(words), (status, ""), lines_of(*words)[:2])
 
 
 class Examples(ProgramCase):
@@ -396,16 +401,18 @@ class Examples(ProgramCase):
 class Longest(ProgramCase):
     alone = True
 
-    def longest(self, action):
-        """A file of 262,144 octets with 128 entries a direction, which differ in their networks alone."""
-        def aces(side):
-            for at in range(128):
-                peer, own = ("destination", "source") if side == "from" else ("source", "destination")
-                ip = {f"{peer}-ipv4-network": f"10.{at}.0.0/16", f"{own}-ipv4-network": f"10.{127 - at}.0.0/16", "protocol": 6, "ttl": 64, "dscp": 3}
-                tcp = {f"{end}-port": {"operator": "neq", "port": 7} for end in ("source", "destination")}
-                yield ace(f"e{at}", {MUD: {"controller": HUB, "local-networks": None}, "ipv4": ip, "tcp": {"flags": "ack syn", **tcp}}, "drop" if at < 64 else action)
+    def aces(self, side, action):
+        """128 entries, which differ in their networks alone."""
+        peer, own = ("destination", "source") if side == "from" else ("source", "destination")
+        layer = {"flags": "ack syn", **{f"{end}-port": {"operator": "neq", "port": 7} for end in ("source", "destination")}}
+        for at in range(128):
+            ip = {f"{peer}-ipv4-network": f"10.{at}.0.0/16", f"{own}-ipv4-network": f"10.{127 - at}.0.0/16", "protocol": 6, "ttl": 64}
+            matches = {MUD: {"controller": HUB, "local-networks": None}, "ipv4": ip, "tcp": layer}
+            yield ace(f"e{at}", matches, "drop" if at < 64 else action)
 
-        lists = [(side, 4, list(aces(side))) for side in ("from", "to")]
+    def longest(self, action):
+        """A file of 262,144 octets with all entries that a file may have."""
+        lists = [(side, 4, list(self.aces(side, action))) for side in ("from", "to")]
         room = 262144 - len(octets_of(usage_file(lists, systeminfo="")))
         return octets_of(usage_file(lists, systeminfo="x" * room))
 

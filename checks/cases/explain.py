@@ -250,6 +250,15 @@ class Remarks(ProgramCase):
         said = entries((tcp, "accept"), (https, "drop"))[1]["remarks"][0]
         self.note("its words", "It never decides: from 1 before it matches all that it matches.", said["words"])
 
+    def test_pointless_defaults(self):
+        """An entry that leaves nothing of one IP version to the default for DNS."""
+        for matches, action, wanted in (({}, "drop", ["dns", "ntp"]), ({"udp": {"destination-port": {"port": 53}}}, "accept", ["dns"]),
+                                        ({MUD: {"controller": "urn:ietf:params:mud:ntp"}}, "drop", ["ntp"]), ({"tcp": {}}, "drop", [])):
+            file = explained(octets_of(usage_file([("from", 6, [ace("e", matches, action)])])))
+            said = [(entry["default"], each["words"]) for entry in file["defaults"]["from"] for each in entry["remarks"]]
+            words = "Of IPv6 it never decides: from 1 before it matches all that it matches."
+            self.note(json.dumps(matches), [(rule, words) for rule in wanted], said)
+
     def test_wide(self):
         """What is wider than it looks, each with its remark."""
         peer = {MUD: {"local-networks": None}}
@@ -366,7 +375,7 @@ class Refusals(ProgramCase):
                 ("another kind", b" [] ", "WrongKind", "Line 1, column 2:")):
             status, out, _ = lines_of(self.put("file.json", octets))
             self.note(f"{what}, status", 3, status)
-            self.holds(what, f"refuses the file: {rule} at the file as a whole." in out and said in out, out)
+            self.holds(what, f"refuses the file by its rule {rule}: the file as a whole." in out and said in out, out)
 
     def test_url_rules(self):
         for rule, url in (("Empty", ""), ("Octet", "https://a.example/\u202e"), ("Scheme", "http://a.example/"), ("Host", "https:///a"), ("Port", "https://a.example:0/"),

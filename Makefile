@@ -81,9 +81,10 @@ install: $(program)
 	install -d "$(DESTDIR)$(PREFIX)/share/man/man1"
 	install -m 644 man/mud.1 "$(DESTDIR)$(PREFIX)/share/man/man1/mud.1"
 	install -d "$(DESTDIR)$(PREFIX)/share/mud"
-	install -m 755 contrib/announce contrib/dnsmasq-script contrib/feed contrib/listen contrib/nft-rules "$(DESTDIR)$(PREFIX)/share/mud"
+	install -m 755 contrib/announce contrib/backup contrib/copy contrib/dnsmasq-script contrib/feed contrib/listen contrib/nft-rules contrib/put "$(DESTDIR)$(PREFIX)/share/mud"
+	install -m 644 contrib/console.py contrib/kept_files.py contrib/nft_tables.py contrib/told_again.py "$(DESTDIR)$(PREFIX)/share/mud"
 	install -m 644 docs/GUIDE.md docs/REFERENCE.md contrib/README.md "$(DESTDIR)$(PREFIX)/share/mud"
-	for unit in mud.service mud-listen@.service; do \
+	for unit in mud.service mud-listen@.service mud-rules.service mud-rules.timer; do \
 	  sed 's|/usr/local/|$(PREFIX)/|' "contrib/$$unit" >"$(DESTDIR)$(PREFIX)/share/mud/$$unit" || exit 1; \
 	  chmod 644 "$(DESTDIR)$(PREFIX)/share/mud/$$unit"; \
 	done

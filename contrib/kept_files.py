@@ -39,9 +39,9 @@ def octets_of(sha256):
     return octets if digest(octets) == sha256 else None
 
 
-def write_whole(path, source):
-    """Writes octets, or what a file has, to a file that is there whole or not at all, with the rights that the
-    umask leaves."""
+def write_whole(path, source, mode=None):
+    """Writes octets, or what a file has, to a file that is there whole or not at all, with these rights or with
+    those that the umask leaves."""
     place, name = os.path.split(os.path.abspath(path))
     number, beside = tempfile.mkstemp(prefix=f".{name}.", dir=place)
     try:
@@ -54,7 +54,7 @@ def write_whole(path, source):
             os.fsync(file.fileno())
         mask = os.umask(0)
         os.umask(mask)
-        os.chmod(beside, 0o666 & ~mask)
+        os.chmod(beside, 0o666 & ~mask if mode is None else mode)
         os.replace(beside, path)
     except BaseException:
         os.unlink(beside)
@@ -62,11 +62,14 @@ def write_whole(path, source):
 
 
 def keep(octets):
-    """Keeps the octets in the folder, which is made where there is none, and says their digest."""
+    """Keeps the octets in the folder, which is made where there is none, and says their digest. Anybody may read
+    there, as what looks after rules does with a user of its own."""
     sha256 = digest(octets)
     if octets_of(sha256) is None:
-        os.makedirs(folder(), exist_ok=True)
-        write_whole(path_of(sha256), octets)
+        if not os.path.isdir(folder()):
+            os.makedirs(folder())
+            os.chmod(folder(), 0o755)
+        write_whole(path_of(sha256), octets, 0o644)
     return sha256
 
 

@@ -268,9 +268,10 @@ class FullStores(CopyCase):
             written = time.monotonic() - began
             self.note("it is served on", None, server.process.poll())
         os.environ["MUD"] = program.PROGRAM
-        began = time.monotonic()
+        # others may share the processors: what is counted is the processor's time
+        began = os.times()
         told_again.make_store(told, self.copy)
-        made = time.monotonic() - began
+        made = sum(after - before for after, before in list(zip(os.times(), began))[:4])
         self.holds(f"{len(told.requests)} requests of {len(octets)} octets are written within 2 seconds", written <= 2, f"{written:.2f} s")
         self.holds("the store is made of them within 3 seconds", made <= 3, f"{made:.2f} s")
 

@@ -11,7 +11,9 @@
 # make bench      measures how fast the program is
 # make hostile    measures what the slowest inputs cost
 # make install    puts the program into PREFIX/bin, its manual page into PREFIX/share/man/man1, and the
-#                 guide and what contrib/ has into PREFIX/share/mud; all under DESTDIR, where it is given
+#                 pages for administrators, the examples and what contrib/ has into PREFIX/share/mud; all
+#                 under DESTDIR, where it is given
+# make uninstall  takes these away
 # make deb        puts the same into a Debian package, out/gonnavir_VERSION_ARCHITECTURE.deb
 # make clean      takes away all that was built
 PREFIX ?= /usr/local
@@ -20,7 +22,7 @@ CRATES ?=
 
 program = crates/mud/out/mud
 
-.PHONY: build test checks proofs trusted limits memory plants fuzz bench hostile install deb clean
+.PHONY: build test checks proofs trusted limits memory plants fuzz bench hostile install uninstall deb clean
 build:
 	sh ./build
 
@@ -33,16 +35,10 @@ test:
 
 checks: build
 	checks/run -j "$$(nproc)" gate checks minutes
-	bash checks/real-clients
 	bash checks/stopped-stores
-	bash checks/shown-commands
-	bash checks/contrib
 	bash checks/made-network
 	bash checks/hostile-inputs
 	checks/failing-calls
-	checks/second-reading crates/mud/out/mud 1 10000
-	checks/second-reading crates/mud/out/mud 2 10000 200
-	checks/exported-lists
 
 proofs:
 	@checks/print proofs
@@ -51,7 +47,7 @@ trusted:
 	@checks/print trusted
 
 limits: build
-	bash checks/far-limits
+	checks/run far-limits
 
 memory: build
 	checks/failing-allocations
@@ -75,19 +71,26 @@ bench: build
 hostile: build
 	bash bench/slowest-inputs
 
+bin = $(DESTDIR)$(PREFIX)/bin
+man = $(DESTDIR)$(PREFIX)/share/man/man1
+share = $(DESTDIR)$(PREFIX)/share/mud
+
 install: $(program)
-	install -d "$(DESTDIR)$(PREFIX)/bin"
-	install -m 755 $(program) "$(DESTDIR)$(PREFIX)/bin/mud"
-	install -d "$(DESTDIR)$(PREFIX)/share/man/man1"
-	install -m 644 man/mud.1 "$(DESTDIR)$(PREFIX)/share/man/man1/mud.1"
-	install -d "$(DESTDIR)$(PREFIX)/share/mud"
-	install -m 755 contrib/announce contrib/backup contrib/copy contrib/dnsmasq-script contrib/feed contrib/listen contrib/nft-rules contrib/put "$(DESTDIR)$(PREFIX)/share/mud"
-	install -m 644 contrib/console.py contrib/kept_files.py contrib/nft_tables.py contrib/told_again.py "$(DESTDIR)$(PREFIX)/share/mud"
-	install -m 644 docs/GUIDE.md docs/REFERENCE.md contrib/README.md "$(DESTDIR)$(PREFIX)/share/mud"
-	for unit in mud.service mud-listen@.service mud-rules.service mud-rules.timer; do \
-	  sed 's|/usr/local/|$(PREFIX)/|' "contrib/$$unit" >"$(DESTDIR)$(PREFIX)/share/mud/$$unit" || exit 1; \
-	  chmod 644 "$(DESTDIR)$(PREFIX)/share/mud/$$unit"; \
+	install -d "$(bin)" "$(man)" "$(share)"
+	install -m 755 $(program) "$(bin)/mud"
+	install -m 644 man/mud.1 "$(man)/mud.1"
+	install -m 644 docs/GUIDE.md docs/REFERENCE.md docs/CLAIMS.md CHANGELOG.md "$(share)"
+	cp -R examples "$(share)/examples"
+	find "$(share)/examples" -type d -exec chmod 755 {} + -o -type f -exec chmod 644 {} +
+	for file in contrib/*; do \
+	  mode=644; if [ -x "$$file" ]; then mode=755; fi; \
+	  install -m $$mode "$$file" "$(share)" || exit 1; \
 	done
+	sed -i 's|/usr/local/|$(PREFIX)/|' "$(share)/mud.service" "$(share)/mud-listen@.service" "$(share)/mud-rules.service"
+
+uninstall:
+	rm -f "$(bin)/mud" "$(man)/mud.1"
+	rm -rf "$(share)"
 
 deb: $(program)
 	@sh packaging/deb

@@ -9,7 +9,7 @@ import os
 import re
 
 HERE = os.path.dirname(os.path.dirname(os.path.abspath(__file__)))
-PAGES = ["README.md", "docs/*.md", "bench/*.md", "fuzz/*.md", "contrib/*.md"]
+PAGES = ["README.md", "CHANGELOG.md", "docs/*.md", "bench/*.md", "fuzz/*.md", "contrib/*.md"]
 
 
 def files(*patterns):

@@ -1,35 +1,20 @@
-#!/usr/bin/env python3
-"""Compares the console with a second reading of what it should answer.
+"""A second reading of what the console should answer, and sessions that are made by chance.
 
-    checks/second-reading [PROGRAM] [SEED] [COUNT] [SESSIONS]
-
-This script holds the manager's rules once more, written in plain lists and loops from its documents
-and from RFC 8520, and shares nothing with the program. It makes COUNT requests (10,000 unless another
-number is given) of a few Things, addresses, names, classes and usage files: announcements, leases,
-files and verdicts, holds, listings and packets, at moments that mostly rise. It pipes them into
-`mud replay`, and compares every answer, octet for octet. They go in SESSIONS sessions one after the
-other (one unless another number is given) over one database file: at the beginning of each, what
-rulings read is made anew from what is kept, connections are forgotten, and the moment is that of the
-last change. One session goes over a store in memory. The same SEED makes the same requests. The status
-is 1 where an answer differs; the first such request is shown.
-
-It needs python3's standard library alone.
+The manager's rules stand here once more, written in plain lists and loops from its documents and from RFC 8520, and
+share nothing with the program. A Maker makes requests of a few Things, addresses, names, classes and usage files:
+announcements, leases, files and verdicts, holds, listings and packets, at moments that mostly rise, each with its
+answer. The same seed makes the same requests.
 """
 import hashlib
 import ipaddress
 import json
-import os
 import random
 import struct
-import subprocess
-import sys
-import tempfile
 from datetime import datetime
 
 FOREVER = 2**64 - 1
 DNS, NTP = "urn:ietf:params:mud:dns", "urn:ietf:params:mud:ntp"
-PHRASES = {200: "OK", 400: "Bad Request", 404: "Not Found", 405: "Method Not Allowed", 409: "Conflict",
-           422: "Unprocessable Entity"}
+PHRASES = {200: "OK", 409: "Conflict"}
 
 
 class Refused(Exception):
@@ -51,7 +36,7 @@ def place(address):
 # ---- Frames: what the headers say
 
 class Unreadable(Exception):
-    pass
+    """Names the part of a frame that can't be read."""
 
 
 def fields_of(frame):
@@ -743,45 +728,3 @@ class Maker:
             head = f"{method} {target} HTTP/1.1\r\nMud-Moment: {given}\r\nContent-Length: {len(octets)}\r\n\r\n"
             pairs.append((head.encode() + octets, self.answer(target, work, now)))
         return pairs, clock
-
-
-def compare(program, store, pairs, passed):
-    """How many answers of a session are as they should be, and whether anything differs."""
-    run = subprocess.run([program, "replay", store], input=b"".join(request for request, _ in pairs),
-                         stdout=subprocess.PIPE, check=False)
-    at = 0
-    for number, (request, answer) in enumerate(pairs):
-        if run.stdout[at:at + len(answer)] != answer:
-            print(f"request {passed + number + 1}: {request!r}\nwanted {answer!r}\ngot    {run.stdout[at:at + len(answer) + 200]!r}")
-            return number, True
-        at += len(answer)
-    if run.returncode != 0 or run.stdout[at:]:
-        print(f"after request {passed + len(pairs)}: status {run.returncode}, and {len(run.stdout) - at} octets behind the last answer")
-        return len(pairs), True
-    return len(pairs), False
-
-
-def main():
-    here = os.path.dirname(os.path.dirname(os.path.abspath(__file__)))
-    program = sys.argv[1] if len(sys.argv) > 1 else os.path.join(here, "crates/mud/out/mud")
-    seed = int(sys.argv[2]) if len(sys.argv) > 2 else 1
-    count = int(sys.argv[3]) if len(sys.argv) > 3 else 10_000
-    if not os.access(program, os.X_OK):
-        print(f"checks/second-reading: no program '{program}' (./build makes it)", file=sys.stderr)
-        return 2
-    sessions = int(sys.argv[4]) if len(sys.argv) > 4 else 1
-    maker, clock, passed, failed = Maker(seed), 1000, 0, False
-    with tempfile.TemporaryDirectory() as folder:
-        store = ":memory:" if sessions == 1 else os.path.join(folder, "store.db")
-        for _ in range(sessions):
-            pairs, clock = maker.session(count // sessions, clock)
-            right, failed = compare(program, store, pairs, passed)
-            passed += right
-            if failed:
-                break
-    print(f"{passed} passed, {int(failed)} failed")
-    return int(failed)
-
-
-if __name__ == "__main__":
-    sys.exit(main())

@@ -47,13 +47,16 @@ class Texts(Contrib):
     @needs("systemd-analyze")
     def test_units(self):
         for name, unit, words in (("mud.service", "mud.service", PROGRAM),
-                                  ("mud-listen@.service", "mud-listen@br0.service", os.path.abspath("contrib/listen"))):
+                                  ("mud-listen@.service", "mud-listen@br0.service", os.path.abspath("contrib/listen")),
+                                  ("mud-rules.service", "mud-rules.service", os.path.abspath("contrib/nft-rules"))):
             text = re.sub("^ExecStart=[^ \n]*", f"ExecStart={words}", texts.read("contrib/" + name), flags=re.M)
             path = self.put(unit, text.encode())
             ended = self.status(f"verify {unit}", 0, "systemd-analyze", "verify", "--man=no", path)
             self.note(f"verify {unit}, words", b"", ended.out + ended.errors)
             # the threshold is ten times the figure
             self.status(f"security {unit}", 0, "systemd-analyze", "security", "--offline=true", "--threshold=40", path)
+        timer = self.put("mud-rules.timer", read("contrib/mud-rules.timer"))
+        self.note("verify mud-rules.timer", (0, b""), run("verify", "--man=no", timer, program="systemd-analyze")[::2])
 
 
 class WithoutConsole(Contrib):
@@ -103,7 +106,7 @@ class Rules(Contrib):
         self.note("a drop behind each list", 4, len(re.findall("^    counter drop$", rules, re.M)))
         self.note("of this address alone", {MAC}, set(re.findall("..:..:..:..:..:..", rules)))
         self.status("nft-rules of no lists", 1, "contrib/nft-rules", MAC, input=MESSAGE)
-        self.status("nft-rules of no address", 1, "contrib/nft-rules", "02:00:00:00:00", input=lists())
+        self.status("nft-rules of no address", 2, "contrib/nft-rules", "02:00:00:00:00", input=lists())
 
     @needs("nft")
     def test_nft(self):

@@ -11,7 +11,7 @@ from checks.program import read, run
 
 MESSAGE = "examples/dhcp/dhclient-dnsmasq-01-discover.bin"
 COPIED = "Makefile VERSION CHANGELOG.md docs man contrib examples packaging".split()
-UNITS = ["mud-listen@.service", "mud.service"]
+UNITS = ["mud-listen@.service", "mud-rules.service", "mud-rules.timer", "mud.service"]
 
 
 class Texts(Case):
@@ -72,7 +72,7 @@ class Package(ProgramCase):
         wanted += [(f"{share}/{name}", mode) for name, mode in of_contrib()] + of_examples(share)
         self.note("files", sorted(wanted), files_below(self.path("installed")))
         units = "".join(read(f"{share}/{unit}", self.path("installed")).decode() for unit in UNITS)
-        self.note("the units' programs", ["/usr/share/mud/listen %i", "/usr/bin/mud serve /var/lib/mud/mud.db 8080 1000000"],
+        self.note("the units' programs", ["/usr/share/mud/listen %i", "/usr/share/mud/nft-rules --load", "/usr/bin/mud serve /var/lib/mud/mud.db 8080 1000000"],
                   re.findall("^ExecStart=(.*)", units, re.M))
         self.make("copy", "uninstall", "PREFIX=/usr", folder)
         self.note("what 'make uninstall' leaves", [], files_below(self.path("installed")))

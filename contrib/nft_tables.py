@@ -1,0 +1,203 @@
+"""Rules of nftables of the lists of 'mud export', for the programs that stand beside this file.
+
+Each Thing has a table of its own, so a packet between two has to pass both.
+"""
+import ipaddress
+import json
+
+MODULE = "ietf-access-control-list:acls"
+OPERATORS = {"eq": "", "neq": "!= ", "lte": "<= ", "gte": ">= "}
+# the octet of flags of TCP
+FLAGS = {"cwr": 128, "ece": 64, "urg": 32, "ack": 16, "psh": 8, "rst": 4, "syn": 2, "fin": 1}
+UPKEEP = (
+    "ether type ip udp sport 67 udp dport 68 accept",
+    "ether type ip ip saddr 0.0.0.0 udp sport 68 udp dport 67 accept",
+    "ether type ip ip daddr 255.255.255.255 udp sport 68 udp dport 67 accept",
+    "ether type ip6 ip6 hoplimit 255 icmpv6 type { 133, 134, 135, 136, 137 } accept",
+)
+# the longest time of an element, in seconds: nft counts milliseconds in 32 bits
+LONGEST = 4_000_000
+# what asks the kernel who began a connection
+ASKS = "ct direction "
+LEASED = ("manufacturer", "same-manufacturer", "model")
+
+
+def name_of(mac):
+    """The name of a Thing's table."""
+    return "mud_" + mac.replace(":", "")
+
+
+def port_test(port):
+    """A port's operator or range, as nft writes it."""
+    if "lower-port" in port:
+        return "%d-%d" % (port["lower-port"], port["upper-port"])
+    return OPERATORS[port["operator"]] + str(port["port"])
+
+
+def header_tests(header, version):
+    """The tests of the IP header."""
+    name = "ip" if version == "4" else "ip6"
+    rules = []
+    for member, field in (("source-ipv%s-network", "saddr"), ("destination-ipv%s-network", "daddr")):
+        if member % version in header:
+            rules.append("%s %s %s" % (name, field, header[member % version]))
+    for member in ("dscp", "ecn", "length"):
+        if member in header:
+            rules.append("%s %s %d" % (name, member, header[member]))
+    if "ttl" in header:
+        rules.append("%s %d" % ("ip ttl" if version == "4" else "ip6 hoplimit", header["ttl"]))
+    return rules
+
+
+def transport_tests(matches, version, side):
+    """The tests of the transport header, and the protocol where there is no such header."""
+    for protocol in ("tcp", "udp", "icmp"):
+        if protocol not in matches:
+            continue
+        tests = matches[protocol]
+        name = "icmpv6" if protocol == "icmp" and version == "6" else protocol
+        rules = ["meta l4proto " + name]
+        for member, field in (("source-port", "sport"), ("destination-port", "dport")):
+            if member in tests:
+                rules.append("%s %s %s" % (name, field, port_test(tests[member])))
+        for member in ("type", "code"):
+            if member in tests:
+                rules.append("%s %s %d" % (name, member, tests[member]))
+        if "flags" in tests:
+            rules.append("tcp flags == 0x%02x" % sum(FLAGS[word] for word in tests["flags"].split()))
+        if "ietf-mud:direction-initiated" in tests:
+            own = (tests["ietf-mud:direction-initiated"] == "from-device") == (side == "from")
+            rules.append(ASKS + ("original" if own else "reply"))
+        return rules
+    header = matches.get("ipv" + version, {})
+    return ["meta l4proto %d" % header["protocol"]] if "protocol" in header else []
+
+
+def entries_of(octets):
+    """The entries of a usage file for each side, in the order of their numbers: the name that each asks for, or None,
+    and whether it asks for leases."""
+    file = json.loads(octets)
+    lists = {acl["name"]: acl for acl in file.get(MODULE, {}).get("acl", [])}
+    found = {"from": [], "to": []}
+    for side, entries in found.items():
+        policy = file["ietf-mud:mud"].get(side + "-device-policy", {}).get("access-lists", {}).get("access-list", [])
+        for item in (item for named in policy for item in lists[named["name"]].get("aces", {}).get("ace", [])):
+            matches = item.get("matches", {})
+            headers = [matches.get("ipv4", {}), matches.get("ipv6", {})]
+            names = [header[member] for header in headers for member in header if member.endswith("-dnsname")]
+            name = names[0].lower().removesuffix(".") if names else None
+            entries.append((name, any(member in matches.get("ietf-mud:mud", {}) for member in LEASED)))
+    return found
+
+
+class Expiries:
+    """When the addresses of a Thing's entries end: each at the first of its name's and its lease's expiries."""
+
+    def __init__(self, listings, octets):
+        self.entries = entries_of(octets)
+        self.leases = {lease["address"]: lease["until"] for thing in listings["things"] for lease in thing["leases"]}
+        self.names = {row["name"]: {at["address"]: at["until"] for at in row["addresses"]} for row in listings["names"]}
+
+    def is_timed(self, side, rule):
+        """Whether the entry by which an item is called has addresses that end."""
+        return rule.startswith("e") and any(self.entries[side][int(rule[1:]) - 1])
+
+    def of(self, side, rule, address):
+        """The expiry of an address in an entry, or None where it has none."""
+        name, leased = self.entries[side][int(rule[1:]) - 1]
+        ends = [self.names[name][address]] if name else []
+        ends += [self.leases[address]] if leased else []
+        return min((end for end in ends if end is not None), default=None)
+
+
+class Table:
+    """The table of a Thing, of its lists. Without expiries each address stands for good. With the gateway the bridge's
+    own traffic goes through it too. Without connections what asks who began one is left out where it accepts, and
+    asks no longer where it drops: so less is allowed, never more."""
+
+    def __init__(self, mac, lists, expiries=None, gateway=False, connections=True):
+        self.mac, self.lists, self.expiries = mac, lists, expiries
+        self.gateway, self.connections = gateway, connections
+
+    def asks(self):
+        """Whether a rule asks who began a connection."""
+        return any("ietf-mud:direction-initiated" in item["matches"].get("tcp", {}) for acl in self.lists for item in acl["aces"]["ace"])
+
+    def rule_of(self, item, version, side, peers=None, name=None):
+        """The rule of an item, or of those of an entry whose peers are a set; None where it is left out."""
+        matches = item["matches"]
+        tests = header_tests(matches.get("ipv" + version, {}), version) + transport_tests(matches, version, side)
+        if peers:
+            field = "%s %s " % ("ip" if version == "4" else "ip6", "daddr" if side == "from" else "saddr")
+            tests = [field + "@" + peers if test.startswith(field) else test for test in tests]
+        accepts = item["actions"]["forwarding"] == "accept"
+        if not self.connections and any(test.startswith(ASKS) for test in tests):
+            if accepts:
+                return None
+            tests = [test for test in tests if not test.startswith(ASKS)]
+        return " ".join(tests + ["counter", "accept" if accepts else "drop", 'comment "%s"' % (name or item["name"])])
+
+    def parts_of(self, acl, now):
+        """The sets and the rules of a list. The items of an entry whose addresses end are one rule over a set, in
+        which each address has a time of its own, up to a second before its expiry."""
+        side, version = acl["name"].split("-v")
+        member = "%s-ipv%s-network" % ("destination" if side == "from" else "source", version)
+        sets, rules = {}, []
+        for item in acl["aces"]["ace"]:
+            rule = item["name"].rpartition("-")[0]
+            if not self.expiries or not self.expiries.is_timed(side, rule):
+                rules.append(self.rule_of(item, version, side))
+                continue
+            peers = "%s_%s_v%s" % (rule, side, version)
+            if peers not in sets:
+                sets[peers] = []
+                rules.append(self.rule_of(item, version, side, peers, rule))
+            address = item["matches"]["ipv" + version][member].partition("/")[0]
+            end = self.expiries.of(side, rule, str(ipaddress.ip_address(address)))
+            if end is None:
+                sets[peers].append(address)
+            elif end - now > 1:
+                sets[peers].append("%s timeout %dms" % (address, 1000 * min(end - now - 1, LONGEST)))
+        return sets, [rule for rule in rules if rule]
+
+    def text(self, now=0):
+        """The table's lines. What stands there is replaced at once."""
+        table = "table bridge " + name_of(self.mac)
+        yield from (table, "delete " + table, table + " {")
+        for acl in self.lists:
+            sets, rules = self.parts_of(acl, now)
+            for name, elements in sets.items():
+                yield "  set " + name + " {"
+                yield "    type ipv%s_addr" % acl["name"][-1]
+                yield "    flags timeout"
+                if elements:
+                    yield "    elements = { %s }" % ", ".join(elements)
+                yield "  }"
+            yield "  chain " + acl["name"] + " {"
+            for rule in rules:
+                yield "    " + rule
+            yield "    counter drop"
+            yield "  }"
+        for side in ("from", "to"):
+            yield "  chain " + side + " {"
+            for upkeep in UPKEEP:
+                yield "    " + upkeep
+            for version, kind in (("4", "ip"), ("6", "ip6")):
+                yield "    ether type %s goto %s-v%s" % (kind, side, version)
+            yield "  }"
+        yield from self.hooks()
+        yield "}"
+
+    def hooks(self):
+        """The chains that lead to the Thing's: what the bridge forwards, and what it takes and sends itself. What it
+        only looks at, as for a capture, isn't its own."""
+        for hook in ("forward", "input", "output") if self.gateway else ("forward",):
+            yield "  chain " + hook + " {"
+            yield "    type filter hook %s priority 0; policy accept;" % hook
+            if hook == "input":
+                yield "    meta pkttype other accept"
+            if hook != "output":
+                yield "    ether saddr %s goto from" % self.mac
+            if hook != "input":
+                yield "    ether daddr %s goto to" % self.mac
+            yield "  }"

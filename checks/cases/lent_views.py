@@ -19,7 +19,7 @@ CODE = """//! A view of the rows of a desk, and a command.
 #![tactic(auto)]
 ghost use Rattle.std.specs.Prelude.{◌≡◌};
 ghost use Rattle.desk_model.specs.Commands.{IsAsked};
-ghost use Rattle.desk_model.specs.Boxed.{IsKept};
+ghost use Rattle.desk_model.specs.Kept.{IsKept};
 ghost use Rattle.mud_desk.specs.DeskState.{tables_of};
 
 use desk_model::Command;
@@ -30,14 +30,14 @@ use base_rows::Steps;
 use std::sync::ledger::Ledger;
 
 /// Whether a Thing has the hardware address; and a command.
-pub fn look_and_command<L: Ledger>(
-    desk: &mut Desk,
+pub fn look_and_command<K: Keeper, L: Ledger>(
+    desk: &mut Desk<K>,
     mac: Mac,
     command: Command,
     now: Moment,
     steps: &mut Steps<L>,
 ) -> bool
-    requires kept { IsKept Keeper-dyn desk.old.keeper (tables_of desk.old.state) }
+    requires kept { IsKept ⟦<K as Keeper>⟧ desk.old.keeper (tables_of desk.old.state) }
     requires asked { IsAsked command }
 {
     let view = desk.rules(mac, Direction::From);

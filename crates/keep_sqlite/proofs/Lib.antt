@@ -3,7 +3,9 @@ pub mod Crashes
 pub mod Creates
 pub mod Deletes
 mod Examples
+pub mod FileKeepers
 pub mod Ids
+pub mod LeftItems
 pub mod Lookups
 pub mod Opens
 pub mod Parts

@@ -18,7 +18,7 @@ use Rattle.sqlite.specs.Start.{FindsIn}
 use Rattle.sqlite.proofs.Theorems.{opens_again}
 use Rattle.mud_world.specs.declared.item.Item.{Item}
 use Rattle.keep_sqlite.specs.Table.{item_schema}
-use Rattle.keep_sqlite.specs.Rows.{held_items, AreTreesOf, MayMake}
+use Rattle.keep_sqlite.specs.Rows.{held_items, AreTreesOf}
 use Rattle.keep_sqlite.specs.Reopened.{HeldDatabase, IsFoundNext}
 use Rattle.keep_sqlite.specs.Telling.{IsUp}
 use Rattle.keep_sqlite.proofs.Tellings.{held_is}
@@ -37,7 +37,7 @@ same_database a b one other trees =
 
 module _ {D : Type 0} {g : Ghosts D} (opened adopted : Held (FileStore D g)) (image : Image) (held : Database) (same : adopted ≡ opened) (up : IsUp over_files adopted)
     (is_opened : HasCleanDisk (file_state opened) → IsOpened opened) (finds : HasCleanDisk (file_state opened) → FindsIn image (file_state opened)) (holds : HeldDatabase image held) where
-  found_in : (state over_files adopted).now ≡ held
+  pub found_in : (state over_files adopted).now ≡ held
   found_in =
       let clean = (subst (IsUp over_files) same up).0 in
       let it = is_opened clean in
@@ -46,9 +46,6 @@ module _ {D : Type 0} {g : Ghosts D} (opened adopted : Held (FileStore D g)) (im
 
   pub reads_file : (list : List Item) → list ≡ held_items (state over_files adopted).now → list ≡ held_items held
   reads_file list read = read ∙ ap held_items found_in
-
-  pub leaves_file : (now : Database) → MayMake (state over_files adopted).now now → MayMake held now
-  leaves_file now made = subst (λ was. MayMake was now) found_in made
 
 -- an error that is told in another way
 pub if_ok_told : {C E F : Type 0} (tell : E → F) (answer : Result C E) (told : Result C F) (P : C → Type 0)

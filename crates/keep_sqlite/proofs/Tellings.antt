@@ -14,7 +14,7 @@ not_none e = let tables = ap (λ (s : Schema). s.tables) e in absurd (let e = ta
 pub held_is : (db : Database) → HoldsItems db → held_items db ≡ items_of db
 held_is db holds = ap (λ (s : Schema). where_tables s.tables (items_of db)) holds.schema
 
-held_none : (db : Database) → db.schema ≡ no_schema → held_items db ≡ []
+pub held_none : (db : Database) → db.schema ≡ no_schema → held_items db ≡ []
 held_none db none = ap (λ (s : Schema). where_tables s.tables (items_of db)) none
 
 pub same_items : (has_opened : Bool) (old new : Database) → MayMake old new → MayHold has_opened old → held_items new ≡ held_items old

@@ -1,6 +1,6 @@
 pub mod Batches
-pub mod Files
-pub mod Paths
+pub mod FileKeepers
+pub mod FromFile
 pub mod Reopened
 pub mod Refusals
 pub mod Refused

@@ -7,7 +7,7 @@ use Rattle.sqlite.specs.Recovery.{Image}
 use Rattle.sqlite.specs.Files.{HoldsDatabase}
 use Rattle.sqlite.specs.Effect.{Database, IsDatabase}
 use Rattle.mud_world.specs.declared.item.Item.{Item}
-use Rattle.keep_sqlite.specs.Rows.{held_items, MayMake}
+use Rattle.keep_sqlite.specs.Rows.{held_items}
 
 -- The files held this database.
 abbrev pub HeldDatabase : Image → Database → Type 0
@@ -16,10 +16,6 @@ HeldDatabase image held = IsDatabase held × HoldsDatabase image held.trees
 -- The list has the items of the database that the files held, and none where it had no table.
 abbrev pub ReadsFile : Image → List Item → Type 0
 ReadsFile image list = (held : Database) → HeldDatabase image held → list ≡ held_items held
-
--- The database is the one that the files held, or has the table where that one had none.
-abbrev pub LeavesFile : Image → Database → Type 0
-LeavesFile image now = (held : Database) → HeldDatabase image held → MayMake held now
 
 -- Whatever a crash leaves of the store, a first opening of it answers one of these lists.
 abbrev pub IsFoundNext : {D : Type 0} {g : Ghosts D} → FileStore D g → (List Item → Type 0) → Type 0

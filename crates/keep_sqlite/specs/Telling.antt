@@ -1,9 +1,9 @@
 -- What a keeper over a connection tells.
-use Rattle.std.specs.Prelude.{◌⊎◌, ℕ, Bool, List, IsTrue, refl}
+use Rattle.std.specs.Prelude.{◌≡◌, ◌⊎◌, ℕ, Bool, List, IsTrue, refl}
 use Rattle.std.specs.Coded.{Coded, code_by, coded×, coded_bool, coded_ℕ}
 use Rattle.sqlite_trees.specs.declared.store.Store.{Ghosts}
 use Rattle.sqlite_trees.specs.Tree.{Trees}
-use Rattle.sqlite.specs.Effect.{Database}
+use Rattle.sqlite.specs.Effect.{Database, IsDatabase}
 use Rattle.sqlite.specs.State.{HasCleanDisk, Survives}
 use Rattle.sqlite.specs.Held.{Held, held_code, state}
 use Rattle.mud_world.specs.declared.item.Item.{Item}
@@ -59,3 +59,7 @@ module _ {S : Type 0} (g : Ghosts S) where
   -- After an opening a crash leaves what it could leave before or, where there was no table, the table without a row.
   abbrev pub MayLeaveMade : KeeperView S → KeeperView S → Type 0
   MayLeaveMade old new = Survives (state g old.connection) (state g new.connection) (AreMadeTrees (database old))
+
+  -- A crash at this moment may leave a database that tells these items.
+  abbrev pub MayBeLeft : KeeperView S → List Item → Type 0
+  MayBeLeft keeper list = (db : Database) × IsDatabase db × (state g keeper.connection).may_leave db.trees × (held_items db ≡ list)

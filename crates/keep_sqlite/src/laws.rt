@@ -11,11 +11,11 @@ ghost use Rattle.sqlite.specs.Steps.{over_memory};
 ghost use Rattle.keep_sqlite.specs.Table.{no_schema};
 ghost use Rattle.keep_sqlite.specs.Rows.{held_items, items_of, HoldsItems};
 ghost use Rattle.keep_sqlite.specs.Reopened.{IsFoundNext};
-ghost use Rattle.keep_sqlite.specs.Telling.{database, told, IsUp, Leaves, LeavesEither, Tells};
+ghost use Rattle.keep_sqlite.specs.Telling.{database, told, IsUp, Leaves, LeavesEither, MayBeLeft, Tells};
 
-use crate::SqliteKeeper;
+use crate::{Refusal, SqliteKeeper};
 use mud_base::Listed;
-use mud_world::{Item, KeepFault, Keeper, Put};
+use mud_world::{Item, Put};
 use sqlite::{Alter, Connection, FileStore, MemStore};
 use sqlite_disk::Disk;
 use std::alloc::Global;
@@ -40,17 +40,17 @@ pub fn unopened_keepers_tell<S: Alter + Drop>(connection: Connection<S>) -> Sqli
     SqliteKeeper::adopt(connection)
 }
 
-/// The first `open` of a keeper that answers Ok answers the items that its database held, and none
+/// The first reading of a keeper that answers Ok answers the items that its database held, and none
 /// where it had no table.
 pub fn first_open_finds<S: Alter + Drop>(
     alloc: Global,
     connection: Connection<S>,
-) -> Result<(SqliteKeeper<S>, Listed<Item>), KeepFault>
+) -> Result<(SqliteKeeper<S>, Listed<Item>), Refusal>
     ensures { IfOk result (λ opened. HasCleanDisk (state S.Store opened.0.connection)
         → opened.1 ≡ held_items (state S.Store connection).now) }
 {
     let mut keeper = unopened_keepers_tell(connection);
-    let items = keeper.open(alloc)?;
+    let items = keeper.read(alloc)?;
     Ok((keeper, items))
 }
 
@@ -61,6 +61,7 @@ pub fn leave<D: Disk + Drop>(keeper: SqliteKeeper<FileStore<D>>) -> FileStore<D>
         → IsFoundNext result (λ list. list ≡ items) }
     ensures either { IsClean (view result) → (one other : List Item) → LeavesEither over_files keeper one other
         → IsFoundNext result (λ list. (list ≡ one) ⊎ (list ≡ other)) }
+    ensures next { IsClean (view result) → IsFoundNext result (MayBeLeft over_files keeper) }
 {
     keeper.connection.into_store()
 }
@@ -70,7 +71,7 @@ pub fn leave<D: Disk + Drop>(keeper: SqliteKeeper<FileStore<D>>) -> FileStore<D>
 pub fn keep_last<D: Disk + Drop>(
     mut keeper: SqliteKeeper<FileStore<D>>,
     batch: &[Put],
-) -> (Result<(), KeepFault>, FileStore<D>)
+) -> (Result<(), Refusal>, FileStore<D>)
     requires opened { IsTrue keeper.has_opened }
     requires batch { IsTrue (is_batch batch.now) }
     ensures either { IsClean (view result.1) → Leaves over_files keeper (items_of (database over_files keeper))
@@ -79,6 +80,6 @@ pub fn keep_last<D: Disk + Drop>(
     ensures kept { IsClean (view result.1)
         → OnOk result.0 (IsFoundNext result.1 (λ list. list ≡ put_all (told over_files keeper) batch.now)) }
 {
-    let answer = keeper.apply(batch);
+    let answer = keeper.keep(batch);
     (answer, leave(keeper))
 }

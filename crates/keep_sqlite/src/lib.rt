@@ -2,16 +2,15 @@
 #![tactic(auto)]
 
 mod batch;
-pub mod first_opening;
+pub mod file_keeper;
+mod first_opening;
 pub mod laws;
 mod listing;
 mod opening;
-pub mod path_keeper;
 pub mod refusal;
 mod schema;
 pub mod sqlite_keeper;
 
-pub use first_opening::open_at;
-pub use path_keeper::PathKeeper;
+pub use file_keeper::{FileKeeper, leave_file, open_file};
 pub use refusal::Refusal;
 pub use sqlite_keeper::SqliteKeeper;

@@ -2,15 +2,13 @@
 ghost use Rattle.std.specs.Prelude.{◌≡◌, true, false, IsTrue, IfOk, IfErr, OnOk, OnErr};
 ghost use Rattle.mud_world.specs.Calls.{counted};
 ghost use Rattle.mud_world.specs.Causes.{Counts};
-ghost use Rattle.mud_world.specs.Items as items;
-ghost use Rattle.mud_world.specs.Items.{is_batch, put_all, IsOrdered};
+ghost use Rattle.mud_world.specs.Items.{is_batch, put_all};
 ghost use Rattle.sqlite.specs.Held.{state};
 ghost use Rattle.sqlite.specs.State.{HasCleanDisk};
-ghost use Rattle.keep_sqlite.specs.declared.refusal.Refusal.{Refusal};
-ghost use Rattle.keep_sqlite.specs.Refusals.{fault_of, has_failed};
+ghost use Rattle.keep_sqlite.specs.Refusals.{has_failed};
 ghost use Rattle.keep_sqlite.specs.Refused.{IsRefused, IsUnopened};
 ghost use Rattle.keep_sqlite.specs.Rows.{items_of, HoldsItems, MayMake};
-ghost use Rattle.keep_sqlite.specs.Telling.{database, told, IsUp, Leaves, MayLeave, MayLeaveMade, Tells};
+ghost use Rattle.keep_sqlite.specs.Telling.{database, told, IsUp, Leaves, MayBeLeft, MayLeave, MayLeaveMade, Tells};
 
 use crate::batch;
 use crate::listing::list;
@@ -88,7 +86,7 @@ impl<S: Alter + Drop> SqliteKeeper<S> {
     }
 
     /// The items: [`Keeper::open`].
-    pub(crate) fn read(&mut self, alloc: Global) -> Result<Listed<Item>, Refusal>
+    pub fn read(&mut self, alloc: Global) -> Result<Listed<Item>, Refusal>
         ensures items { Tells S.Store self.new → IfOk result (λ list. list ≡ told S.Store self.new) }
         ensures same { Tells S.Store self.new → told S.Store self.new ≡ told S.Store self.old }
         ensures told { Tells S.Store self.new → Tells S.Store self.old }
@@ -98,12 +96,19 @@ impl<S: Alter + Drop> SqliteKeeper<S> {
         ensures opens { IsUp S.Store self.new.connection → IsUp S.Store self.old.connection }
         ensures cause { Counts (has_failed result) self.old.faults self.new.faults }
         ensures count { self.new.faults ≡ counted (has_failed result) self.old.faults }
+        // While the disk gives back what was written, an Err is want of memory or what the database answered, or
+        // a transaction was begun before, or the database holds no items and isn't one without a table.
         ensures refused { HasCleanDisk (state S.Store self.new.connection)
             → IfErr result (IsUnopened S.Store self.old self.new) }
+        // An Ok says that the database has our table and no other, and that each row is an item.
         ensures table { Tells S.Store self.new → OnOk result (HoldsItems (database S.Store self.new)) }
+        // Whatever it answers, it made the table in a database with no table, or changed nothing.
         ensures kept { IsUp S.Store self.new.connection
             → MayMake (database S.Store self.old) (database S.Store self.new) }
+        // At each return a crash leaves what it could leave before or, where there was no table, the table
+        // without an item,
         ensures crash { IsUp S.Store self.old.connection → MayLeaveMade S.Store self.old self.new }
+        // and after Ok the items that it answered.
         ensures after { Tells S.Store self.new
             → OnOk result (Leaves S.Store self.new (told S.Store self.new)) }
     {
@@ -208,37 +213,12 @@ impl<S: Alter + Drop> Keeper for SqliteKeeper<S> {
 
     ghost opened = { λ keeper. keeper.has_opened };
 
+    ghost left = { MayBeLeft S.Store };
+
     ghost faults = { λ keeper. keeper.faults };
 
     #[tactic(auto, using(crate::proofs::Lookups::items_ascend))]
-    fn open(&mut self, alloc: Global) -> Result<Listed<Item>, KeepFault>
-        ensures items { Tells S.Store self.new → IfOk result (λ list. list ≡ told S.Store self.new) }
-        ensures ordered { Tells S.Store self.new → IsOrdered (told S.Store self.new) }
-        ensures same { Tells S.Store self.new → told S.Store self.new ≡ told S.Store self.old }
-        ensures told { Tells S.Store self.new → Tells S.Store self.old }
-        ensures tells { HasCleanDisk (state S.Store self.new.connection) → OnOk result (Tells S.Store self.new) }
-        ensures opened { OnOk result (self.new.has_opened ≡ true) }
-        ensures still { OnErr result (self.new.has_opened ≡ self.old.has_opened) }
-        ensures opens { IsUp S.Store self.new.connection → IsUp S.Store self.old.connection }
-        ensures cause { Counts (items.has_failed result) self.old.faults self.new.faults }
-        ensures count { self.new.faults ≡ counted (items.has_failed result) self.old.faults }
-        // While the disk gives back what was written, an Err is want of memory or what the database answered, or
-        // a transaction was begun before, or the database holds no items and isn't one without a table.
-        ensures refused { HasCleanDisk (state S.Store self.new.connection)
-            → IfErr result (λ fault. (refusal : Refusal) × (fault ≡ fault_of refusal)
-            × IsUnopened S.Store self.old self.new refusal) }
-        // An Ok says that the database has our table and no other, and that each row is an item.
-        ensures table { Tells S.Store self.new → OnOk result (HoldsItems (database S.Store self.new)) }
-        // Whatever it answers, it made the table in a database with no table, or changed nothing.
-        ensures kept { IsUp S.Store self.new.connection
-            → MayMake (database S.Store self.old) (database S.Store self.new) }
-        // At each return a crash leaves what it could leave before or, where there was no table, the table
-        // without an item,
-        ensures crash { IsUp S.Store self.old.connection → MayLeaveMade S.Store self.old self.new }
-        // and after Ok the items that it answered.
-        ensures after { Tells S.Store self.new
-            → OnOk result (Leaves S.Store self.new (told S.Store self.new)) }
-    {
+    fn open(&mut self, alloc: Global) -> Result<Listed<Item>, KeepFault> {
         match self.read(alloc) {
             Ok(items) => Ok(items),
             Err(refusal) => Err(fault_of(refusal)),
@@ -246,26 +226,7 @@ impl<S: Alter + Drop> Keeper for SqliteKeeper<S> {
     }
 
     #[tactic(auto, using(crate::proofs::Lookups::items_ascend))]
-    fn apply(&mut self, batch: &[Put]) -> Result<(), KeepFault>
-        requires opened { IsTrue self.old.has_opened }
-        requires batch { IsTrue (is_batch batch.now) }
-        ensures told { Tells S.Store self.new → Tells S.Store self.old }
-        ensures tells { HasCleanDisk (state S.Store self.new.connection) → OnOk result (Tells S.Store self.new) }
-        ensures ordered { Tells S.Store self.new → IsOrdered (told S.Store self.new) }
-        ensures ok { Tells S.Store self.new
-            → OnOk result (told S.Store self.new ≡ put_all (told S.Store self.old) batch.now) }
-        ensures err { Tells S.Store self.new
-            → OnErr result (told S.Store self.new ≡ told S.Store self.old) }
-        ensures opened { self.new.has_opened ≡ self.old.has_opened }
-        ensures cause { Counts (items.has_failed result) self.old.faults self.new.faults }
-        ensures count { self.new.faults ≡ counted (items.has_failed result) self.old.faults }
-        ensures refused { HasCleanDisk (state S.Store self.new.connection)
-            → IfErr result (λ fault. (refusal : Refusal) × (fault ≡ fault_of refusal)
-            × IsRefused S.Store self.old.connection batch.now refusal) }
-        ensures crash { MayLeave S.Store self.old self.new (put_all (items_of (database S.Store self.old)) batch.now) }
-        ensures after { Tells S.Store self.new
-            → OnOk result (Leaves S.Store self.new (told S.Store self.new)) }
-    {
+    fn apply(&mut self, batch: &[Put]) -> Result<(), KeepFault> {
         match self.keep(batch) {
             Ok(()) => Ok(()),
             Err(refusal) => Err(fault_of(refusal)),

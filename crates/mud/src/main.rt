@@ -108,8 +108,9 @@ fn run_over(rt: HostRuntime, words: &[String], path: Option<String>, folder: Str
     let mut door = RealDoor::new(rt.reader(), io::writer(&rt), rt);
     let mut spool = RealSpool::new(rt, folder);
     let mut clock = RealClock::new(rt);
-    let (status, mut keeper) =
-        run_store(alloc, &rt, words, path, &mut door, &mut spool, &mut clock);
+    let (status, mut keeper) = run_store(
+        alloc, &rt, words, path, &mut door, &mut spool, &mut clock,
+    );
     if status == Status::DoorFailed.number() {
         tell(rt, door.failure);
         tell(rt, spool.failure);

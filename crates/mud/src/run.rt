@@ -26,7 +26,10 @@ pub fn run_file<S: Start, D: Door, P: Spool, C: Clock>(
     door: &mut D,
     spool: &mut P,
     clock: &mut C,
-) -> (u8, StoreKeeper<MemoryKeeper, FileKeeper<FileStore<FileFrom<S>>>>)
+) -> (
+    u8,
+    StoreKeeper<MemoryKeeper, FileKeeper<FileStore<FileFrom<S>>>>,
+)
     ensures words { Is Unlisted result.0 ↔ (command_in (words_of words.now) ≡ None) }
     // The run begins with the items that the file held, does what the command's record says, and leaves
     // alone what isn't the command's own.

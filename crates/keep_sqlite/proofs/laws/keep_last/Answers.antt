@@ -11,11 +11,11 @@ returns-clause-either g c clean leaves =
     let was = items_of (database over_files c.args.keeper) in
     let now_clean = clean_before _ _ c.leave.ensures.clean clean in
     c.leave.ensures.either clean was (put_all was c.args.batch.now) (λ trees may.
-    either_of (leaves trees) (c.apply-answer.ensures.crash.crash now_clean trees may))
+    either_of (leaves trees) (c.keep-answer.ensures.crash.crash now_clean trees may))
 
 pub returns-clause-kept : goal.returns-clause-kept
 returns-clause-kept g c clean =
-    let e = c.apply-answer.ensures in
+    let e = c.keep-answer.ensures in
     let now_clean = clean_before _ _ c.leave.ensures.clean clean in
-    on_ok_then c.apply-answer.result (e.tells now_clean) e.ok e.after (λ put leaves.
-    c.leave.ensures.found clean (put_all (told over_files c.args.keeper) c.args.batch.now) (subst (Leaves over_files c.apply-answer.new.self) put leaves))
+    on_ok_then c.keep-answer.result (e.tells now_clean) e.ok e.after (λ put leaves.
+    c.leave.ensures.found clean (put_all (told over_files c.args.keeper) c.args.batch.now) (subst (Leaves over_files c.keep-answer.new.self) put leaves))

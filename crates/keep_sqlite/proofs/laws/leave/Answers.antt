@@ -1,6 +1,8 @@
 use Rattle.std.proofs.Common.{◌≡◌, ◌⊎◌, refl, subst, sym}
 use Rattle.sqlite.specs.Files.{over_files}
-use Rattle.keep_sqlite.specs.Telling.{Leaves, LeavesEither}
+use Rattle.sqlite.specs.Held.{state}
+use Rattle.keep_sqlite.specs.Telling.{Leaves, LeavesEither, MayBeLeft}
+use Rattle.keep_sqlite.proofs.LeftItems.{left_next}
 use Rattle.keep_sqlite.proofs.Reopens.{found_next, one_of}
 use Rattle.keep_sqlite.proofs.laws.leave.Goals as goal
 
@@ -15,3 +17,9 @@ returns-clause-either g c clean one other leaves =
     let e = c.into_store.ensures in
     found_next c.into_store.result (λ list. (list ≡ one) ⊎ (list ≡ other)) (e.numbered clean) (e.sound clean) (λ trees recovered.
     one_of one other trees (subst (λ keeper. LeavesEither over_files keeper one other) (sym c.keeper.view_is) leaves trees (e.quiet.outcomes trees recovered)))
+
+pub returns-clause-next : goal.returns-clause-next
+returns-clause-next g c clean =
+    let e = c.into_store.ensures in
+    left_next c.into_store.result (MayBeLeft over_files c.args.keeper) (e.numbered clean) (e.sound clean) (λ db sound recovered.
+    (db, sound, subst (λ keeper. (state over_files keeper.connection).may_leave db.trees) c.keeper.view_is (e.quiet.outcomes db.trees recovered), refl))

@@ -1,0 +1,77 @@
+-- What a keeper tells whose file was just opened.
+use Rattle.std.proofs.Common.{◌≡◌, inl, inr, false, Ok, Err, Result, Option, Some, None, IfOk, IfErr, IfSome, refl, sym, subst}
+use Rattle.sqlite_disk.specs.declared.Disk.{Ghosts}
+use Rattle.sqlite.specs.declared.FileStore.{FileStore}
+use Rattle.sqlite.specs.declared.error.Error.{Error}
+use Rattle.sqlite.specs.declared.file.Leftover.{Leftover}
+use Rattle.sqlite.specs.Effect.{Database}
+use Rattle.sqlite.specs.State.{HasCleanDisk}
+use Rattle.sqlite.specs.Held.{Held}
+use Rattle.sqlite.specs.Recovery.{Image}
+use Rattle.sqlite.specs.Files.{file_state, over_files, IsOpened}
+use Rattle.sqlite.specs.Start.{FindsIn}
+use Rattle.keep_sqlite.specs.declared.refusal.Refusal.{Refusal}
+use Rattle.keep_sqlite.specs.FileKeepers.{opened_items, FailsOnFiles, FailsToConnect, IsAdopted, IsSystemError, OpenedIsUp, OpenedSees, OpenedTells, UnconnectedFor, UnopenedFor}
+use Rattle.keep_sqlite.specs.Refusals.{refusal_of}
+use Rattle.keep_sqlite.specs.Reopened.{HeldDatabase, ReadsFile}
+use Rattle.keep_sqlite.specs.Rows.{MayHold}
+use Rattle.keep_sqlite.specs.Telling.{database, told, KeeperView}
+use Rattle.keep_sqlite.proofs.Reopens.{found_in, reads_file}
+
+pub if_some_map : {A : Type 0} {P Q : A → Type 0} (o : Option A) → IfSome o P → ((a : A) → P a → Q a) → IfSome o Q
+if_some_map None p f = tt
+if_some_map (Some a) p f = f a p
+
+pub if_err_later : {A E C : Type 0} (P : E → Type 0) (r : Result A E) → (C → IfErr r P) → IfErr r (λ e. C → P e)
+if_err_later P (Ok a) p = tt
+if_err_later P (Err e) p = p
+
+module _ {D : Type 0} {g : Ghosts D} (image : Image) where
+  pub found_file : (opened : Result (Held (FileStore D g)) Refusal) (keeper : Result (KeeperView (FileStore D g)) Refusal) → IsAdopted opened keeper
+      → IfOk opened (λ c. HasCleanDisk (file_state c) → IsOpened c)
+      → IfOk opened (λ c. HasCleanDisk (file_state c) → FindsIn image (file_state c))
+      → OpenedTells over_files keeper → ReadsFile image (opened_items over_files keeper)
+  found_file (Ok connection) (Ok keeper) adopted is_opened finds tells held holds =
+      reads_file connection keeper.connection image held adopted.0 tells.0 is_opened finds holds (told over_files keeper) refl
+  found_file (Ok connection) (Err refusal) adopted is_opened finds tells held holds = absurd tells
+  found_file (Err refusal) (Ok keeper) adopted is_opened finds tells held holds = absurd adopted
+  found_file (Err refusal) (Err again) adopted is_opened finds tells held holds = absurd tells
+
+  pub tells_file : (opened : Result (Held (FileStore D g)) Refusal) (keeper : Result (KeeperView (FileStore D g)) Refusal) → IsAdopted opened keeper
+      → IfOk opened (λ c. HasCleanDisk (file_state c) → IsOpened c)
+      → IfOk opened (λ c. HasCleanDisk (file_state c) → FindsIn image (file_state c))
+      → (held : Database) → HeldDatabase image held → MayHold false held → OpenedIsUp over_files keeper → OpenedTells over_files keeper
+  tells_file (Ok connection) (Ok keeper) adopted is_opened finds held holds may up =
+      let now = found_in connection keeper.connection image held adopted.0 up is_opened finds holds in
+      (up, subst (λ b. MayHold b (database over_files keeper)) (sym adopted.1) (subst (MayHold false) (sym now) may))
+  tells_file (Ok connection) (Err refusal) adopted is_opened finds held holds may up = absurd up
+  tells_file (Err refusal) (Ok keeper) adopted is_opened finds held holds may up = absurd adopted
+  tells_file (Err refusal) (Err again) adopted is_opened finds held holds may up = absurd up
+
+  pub sees_file : (opened : Result (Held (FileStore D g)) Refusal) (keeper : Result (KeeperView (FileStore D g)) Refusal) → IsAdopted opened keeper
+      → IfOk opened (λ c. HasCleanDisk (file_state c) → IsOpened c)
+      → IfOk opened (λ c. HasCleanDisk (file_state c) → FindsIn image (file_state c))
+      → (held : Database) → HeldDatabase image held → OpenedIsUp over_files keeper → OpenedSees over_files keeper held
+  sees_file (Ok connection) (Ok keeper) adopted is_opened finds held holds up =
+      found_in connection keeper.connection image held adopted.0 up is_opened finds holds
+  sees_file (Ok connection) (Err refusal) adopted is_opened finds held holds up = absurd up
+  sees_file (Err refusal) (Ok keeper) adopted is_opened finds held holds up = absurd adopted
+  sees_file (Err refusal) (Err again) adopted is_opened finds held holds up = absurd up
+
+  pub unopened_file : (opened : Result (Held (FileStore D g)) Refusal) (keeper : Result (KeeperView (FileStore D g)) Refusal) → IsAdopted opened keeper
+      → UnconnectedFor image opened → UnopenedFor image keeper
+  unopened_file (Ok connection) (Ok keeper) adopted why = tt
+  unopened_file (Ok connection) (Err refusal) adopted why = absurd adopted
+  unopened_file (Err refusal) (Ok keeper) adopted why = absurd adopted
+  unopened_file (Err refusal) (Err again) adopted why = subst (FailsToConnect g image) (sym adopted) why
+
+  -- the error of an opening, as it is told
+  pub unconnected : (answer : Result (Held (FileStore D g)) (Error × Option (Leftover D g))) (told : Result (Held (FileStore D g)) Refusal)
+      → IfOk answer (λ c. told ≡ Ok c) → IfErr answer (λ e. told ≡ Err (refusal_of e.0))
+      → IfErr answer (λ e. e.1 ≡ None → IsSystemError e.0)
+      → IfErr answer (λ e. IfSome e.1 (λ left. FailsOnFiles g image e.0)) → UnconnectedFor image told
+  unconnected (Ok c) told ok err system cause = subst (UnconnectedFor image) (sym ok) tt
+  unconnected (Err (e, None)) told ok err system cause =
+      subst (UnconnectedFor image) (sym err) (record { error = e; told = refl; fails = inl (system refl) })
+  unconnected (Err (e, Some left)) told ok err system cause =
+      subst (UnconnectedFor image) (sym err) (record { error = e; told = refl; fails = inr cause })

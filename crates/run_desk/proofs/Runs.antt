@@ -39,7 +39,7 @@ module _ {K : Type 0} (members : Ghosts K) (keeper after : K) (tells : Type 0) (
       → (tells → (status ≡ 4) ⊎ (status ≡ 5) → WritesPart (output tables old.state.left) old.state new.state)
       → (tells → new.reads ≢ old.reads → WritesTaken step (from tables) old.state new.state)
       → new.turns ≡ old.turns → (returned : K) → returned ≡ after → ReadsByStore members output step from tells keeper returned old new status
-  opened_over tables read sound kept same_count back rests is fault steady done part gone turns returned same = subst (λ (it : K). ReadsByStore members output step from tells keeper box old new status) (sym same) (record {
+  opened_over tables read sound kept same_count back rests is fault steady done part gone turns returned same = subst (λ (it : K). ReadsByStore members output step from tells keeper it old new status) (sym same) (record {
     honest = record {
       statuses = of_capture status is;
       fault = fault;

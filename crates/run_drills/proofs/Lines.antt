@@ -65,7 +65,7 @@ module _ {K : Type 0} (members : Ghosts K) (tells : Type 0) (packets : ℕ)
       → (returned : K) → returned ≡ after.keeper → DrillsFrom members tells packets (session_of before.state) before.keeper returned old new status
   lines_run ran is fault steady done part turns reads returned same =
       let same_tables : tables_of after.state ≡ (session_after (session_of before.state) (drill_commands packets)).desk = tables_in_session _ after.state ran.session in
-      subst (λ (it : K). DrillsFrom members tells packets (session_of before.state) before.keeper box old new status) (sym same) (record {
+      subst (λ (it : K). DrillsFrom members tells packets (session_of before.state) before.keeper it old new status) (sym same) (record {
         statuses = of_lines status is;
         ran = drill_commands packets;
         rest = [];
@@ -91,7 +91,7 @@ module _ {K : Type 0} (members : Ghosts K) (tells : Type 0) (packets : ℕ)
       → (returned : K) → returned ≡ after.keeper → DrillsFrom members tells packets (session_of before.state) before.keeper returned old new status
   stopped_run Keeper ran is still returned same =
       let same_tables : tables_of after.state ≡ (session_after (session_of before.state) ran.ran).desk = tables_in_session _ after.state ran.session in
-      subst (λ (it : K). DrillsFrom members tells packets (session_of before.state) before.keeper box old new status) (sym same) (record {
+      subst (λ (it : K). DrillsFrom members tells packets (session_of before.state) before.keeper it old new status) (sym same) (record {
         statuses = inr (inr (inr is));
         ran = ran.ran;
         rest = ran.rest;
@@ -113,7 +113,7 @@ module _ {K : Type 0} (members : Ghosts K) (tells : Type 0) (packets : ℕ)
       })
   stopped_run Memory ran is still returned same =
       let same_tables : tables_of after.state ≡ (session_after (session_of before.state) ran.ran).desk = tables_in_session _ after.state ran.session in
-      subst (λ (it : K). DrillsFrom members tells packets (session_of before.state) before.keeper box old new status) (sym same) (record {
+      subst (λ (it : K). DrillsFrom members tells packets (session_of before.state) before.keeper it old new status) (sym same) (record {
         statuses = inr (inr (inl is));
         ran = ran.ran;
         rest = ran.rest;

@@ -117,7 +117,7 @@ module _ {K : Type 0} (members : Ghosts K) (keeper begun : K) (tells : Type 0) (
       → new.turns ≡ old.turns → new.reads ≡ old.reads
       → (returned : K) → returned ≡ begun → DrillsStore members tells packets keeper returned old new status
   full_run full sound kept is fault steady done part turns reads returned same =
-      subst (λ (it : K). DrillsStore members tells packets keeper box old new status) (sym same) (record {
+      subst (λ (it : K). DrillsStore members tells packets keeper it old new status) (sym same) (record {
         honest = record {
           statuses = of_full status is;
           fault = fault;

@@ -63,7 +63,7 @@ module _ {K : Type 0} (members : Ghosts K) (keeper after : K) (kind : ReportKind
       → (tells → WritesTable kind clock_tells moments old.state new.state status tables)
       → new.turns ≡ old.turns → new.reads ≡ old.reads → (returned : K) → returned ≡ after
       → ReportsStore members kind tells clock_tells moments keeper returned old new status
-  opened_run tables read sound kept same_count back rests is fault steady writes turns reads returned same = subst (λ (it : K). ReportsStore members kind tells clock_tells moments keeper box old new status) (sym same) (record {
+  opened_run tables read sound kept same_count back rests is fault steady writes turns reads returned same = subst (λ (it : K). ReportsStore members kind tells clock_tells moments keeper it old new status) (sym same) (record {
     honest = record {
       statuses = of_table status is;
       fault = fault;

@@ -68,7 +68,7 @@ module _ {K : Type 0} (members : Ghosts K) (tells : Type 0) (after returned : K)
   pub leaves : IsKept members after (tables_of state) → returned ≡ after → (s : ConsoleState) → IsAt tells state moments faults (faults_of members after) s
       → LeavesDesk members tells faults returned moments s
   leaves kept same s at =
-      subst (λ (it : K). LeavesDesk members tells faults box moments s) (sym same) (record {
+      subst (λ (it : K). LeavesDesk members tells faults it moments s) (sym same) (record {
         kept = subst (λ (desk : DeskTables). IsKept members after desk) (sym (ap (λ (session : Session). session.desk) at.session ∙ desk_of_session state)) kept;
         clock = at.clock;
         paid = at.paid;

@@ -1,8 +1,9 @@
 //! The usage text.
 
-/// The command lines, each with what it reads on standard input and what it writes on standard
-/// output, and the statuses. It is for standard error where the words are no listed line.
+/// The version, the command lines, each with what it reads on standard input and what it writes on
+/// standard output, and the statuses. It is for standard error where the words are no listed line.
 pub const USAGE: &str = "\
+mud 1.0.0
 usage: mud COMMAND
 
   COMMAND                 reads                       writes

@@ -1,5 +1,5 @@
 -- A Thing is found among the numbers of all Things as it is among their hardware addresses.
-use Rattle.std.proofs.Common.{◌≡◌, ℕ, zero, suc, ◌+◌, ◌%◌, ◌<◌, ◌≤◌, Bool, true, false, cond, List, [], ◌∷◌, ◌++◌, length, map, take, get_or, slice_get, Option, Some, None, inl, inr, refl, sym, ap, subst, ◌∙◌, arith}
+use Rattle.std.proofs.Common.{◌≡◌, ℕ, zero, suc, ◌+◌, ◌%◌, ◌<◌, ◌≤◌, Bool, true, false, ◌==◌, if◌then◌else◌, cond, List, [], ◌∷◌, ◌++◌, length, map, take, get_or, slice_get, Option, Some, None, inl, inr, refl, sym, ap, subst, ◌∙◌, arith}
 use denote.Ref.{Bor}
 use Rattle.std.specs.Prelude.{◌≢◌}
 use Rattle.std.specs.List.{AllByRecursion}
@@ -13,7 +13,8 @@ use Rattle.std.specs.Cmp.{nat_cmp_is}
 use Rattle.std.proofs.lemmas.Cmp.{ranked}
 use Rattle.std.proofs.Math.ListN.{set, replicate}
 use Rattle.std.proofs.lemmas.Bool.{cases_eq, cases_lt}
-use Rattle.std.proofs.lemmas.List.{length-map, length-set, length-replicate, length-take-le, get_or-set_same, get_or-set_other, take_all}
+use Rattle.std.proofs.lemmas.Bool.Decides.{nat_tests}
+use Rattle.std.proofs.lemmas.List.{length-map, length-set, length-replicate, length-take-le, get_or-set_same, get_or-set_other, get_or-replicate, get_or-take, take_all}
 use Rattle.std.proofs.lemmas.Option.{slice_get_past, slice_get_read}
 use Rattle.base_rows.specs.Sortable.{sort_key_cmp, same_sort_key, SortKeysAbove, SortKeysAscend, row_at}
 use Rattle.base_rows.specs.Search.{sort_key_answer}
@@ -24,7 +25,7 @@ use Rattle.mud_base.specs.declared.addr.Mac.{Mac}
 use Rattle.table_model.specs.declared.thing.Thing.{Thing}
 use Rattle.table_model.specs.Things.{mac_of}
 use Rattle.table_model.proofs.RowSets.{take_one, map_push}
-use Rattle.thing_book.specs.Numbers.{mac_number, thing_number, IsMac, HasMac, AreNumbersOf, AreRising, AreSpotted}
+use Rattle.thing_book.specs.Numbers.{mac_number, thing_number, IsMac, HasMac, AreNumbersOf, AreRising, IsShared, AreSpotted}
 use Rattle.thing_book.proofs.MacNumbers.{mac_cmp}
 
 pub length_numbers : (things : List Thing) (numbers : List ℕ) → AreNumbersOf things numbers → length numbers ≡ length things
@@ -121,11 +122,69 @@ not_among numbers n i gap k lt same = elim (cases_lt k i) [
   | inr after ↦ (let more : n < get_or numbers k 0 = gap.2 k after lt in absurd (omega arith))
 ]
 
+-- what is taken by a number more, where 65,534 stands in its spot or something else
+module _ (there index v : ℕ) (taken : v ≡ (if there == 65534 then index else 65535)) where
+  taken_own : v ≢ 65535 → v ≡ index
+  taken_own ne = by (there == 65534) taken
+    where
+      by : (b : Bool) → v ≡ (if b then index else 65535) → v ≡ index
+      by true e = e
+      by false e = absurd (ne e)
+
+  taken_empty : v ≢ 65535 → there ≡ 65534
+  taken_empty ne = by (there == 65534) refl taken
+    where
+      by : (b : Bool) → (there == 65534) ≡ b → v ≡ (if b then index else 65535) → there ≡ 65534
+      by true f e = grind (arith, nat_tests)
+      by false f e = absurd (ne e)
+
+  taken_other : index < 512 → v ≡ 65535 → there ≢ 65534
+  taken_other few is empty = by (there == 65534) refl taken
+    where
+      by : (b : Bool) → (there == 65534) ≡ b → v ≡ (if b then index else 65535) → ⊥
+      by true f e = omega arith
+      by false f e = grind (arith, nat_tests)
+
+-- the numbers of a list are among those of a longer one
+shared_more : (room : List ℕ) (count n s : ℕ) → IsShared room count s → IsShared (set room count n) (count + 1) s
+shared_more room count n s h = record {
+  one = h.one;
+  other = h.other;
+  apart = h.apart;
+  within = let w : h.other < count = h.within in omega arith;
+  of_one = ap (λ m. m % 2048) (get_or-set_other room count h.one n 0 (λ e. let w : h.other < count = h.within in let a : h.one < h.other = h.apart in absurd (omega arith))) ∙ h.of_one;
+  of_other = ap (λ m. m % 2048) (get_or-set_other room count h.other n 0 (λ e. let w : h.other < count = h.within in absurd (omega arith))) ∙ h.of_other;
+}
+
+-- where a spot is shared by the first numbers of their room, it is by the list of them
+pub shared_taken : (room : List ℕ) (count s : ℕ) → count ≤ length room → IsShared room count s → IsShared (take count room) (length (take count room)) s
+shared_taken room count s fits h =
+    let long : length (take count room) ≡ count = length-take-le count room fits in
+    let w : h.other < count = h.within in
+    let a : h.one < h.other = h.apart in
+    record {
+      one = h.one;
+      other = h.other;
+      apart = h.apart;
+      within = omega arith;
+      of_one = ap (λ m. m % 2048) (get_or-take count room h.one 0 (omega arith)) ∙ h.of_one;
+      of_other = ap (λ m. m % 2048) (get_or-take count room h.other 0 w) ∙ h.of_other;
+    }
+
 module _ (room spots : List ℕ) (count : ℕ) (are : AreSpotted room spots count) where
   pub length_counted : length (take count room) ≡ count
   length_counted = length-take-le count room (omega (arith, are.room_is, are.within))
 
-  module _ (n v : ℕ) (fits : count < 512) (own : v ≢ 65535 → v ≡ count) (empty : v ≢ 65535 → get_or spots (n % 2048) 0 ≡ 65534) where
+  module _ (n v : ℕ) (fits : count < 512) (taken : v ≡ (if get_or spots (n % 2048) 0 == 65534 then count else 65535)) where
+    abbrev there : ℕ
+    there = get_or spots (n % 2048) 0
+
+    own : v ≢ 65535 → v ≡ count
+    own = taken_own there count v taken
+
+    empty : v ≢ 65535 → there ≡ 65534
+    empty = taken_empty there count v taken
+
     abbrev room' : List ℕ
     room' = set room count n
 
@@ -161,19 +220,64 @@ module _ (room spots : List ℕ) (count : ℕ) (are : AreSpotted room spots coun
       | inr earlier ↦ earlier_spotted k (get_or room' k 0) (omega arith) (sym (get_or-set_other room count k n 0 earlier)) ne
     ]
 
+    now_own : (s : ℕ) → s < 2048 → get_or spots' s 0 ≢ 65534 → get_or spots' s 0 ≢ 65535 → (get_or spots' s 0 < count + 1) × (get_or room' (get_or spots' s 0) 0 % 2048 ≡ s)
+    now_own s lt ne nf = elim (cases_eq s (n % 2048)) [
+      | inl same ↦ (
+          let now : get_or spots' s 0 ≡ v = ap (λ r. get_or spots' r 0) same ∙ at_own in
+          let is : get_or spots' s 0 ≡ count = now ∙ own (λ shared. nf (now ∙ shared)) in
+          (omega arith, ap (λ i. get_or room' i 0 % 2048) is ∙ ap (λ m. m % 2048) last_spotted ∙ sym same))
+      | inr apart ↦ (
+          let kept : get_or spots' s 0 ≡ get_or spots s 0 = get_or-set_other spots (n % 2048) s v 0 apart in
+          let was : (get_or spots s 0 < count) × (get_or room (get_or spots s 0) 0 % 2048 ≡ s) = are.own s lt (λ e. ne (kept ∙ e)) (λ e. nf (kept ∙ e)) in
+          let below : get_or spots s 0 < count = was.0 in
+          (omega arith, ap (λ i. get_or room' i 0 % 2048) kept ∙ ap (λ m. m % 2048) (get_or-set_other room count (get_or spots s 0) n 0 (λ e. absurd (omega arith))) ∙ was.1))
+    ]
+
+    -- the spot of the number that comes, where something stands in it
+    joined : there ≢ 65534 → IsShared room' (count + 1) (n % 2048)
+    joined ne = elim (cases_eq there 65535) [
+      | inl shared ↦ shared_more room count n (n % 2048) (are.shared (n % 2048) (omega arith) shared)
+      | inr one ↦ (
+          let was : (there < count) × (get_or room there 0 % 2048 ≡ n % 2048) = are.own (n % 2048) (omega arith) ne one in
+          let below : there < count = was.0 in
+          record {
+            one = there;
+            other = count;
+            apart = below;
+            within = omega arith;
+            of_one = ap (λ m. m % 2048) (get_or-set_other room count there n 0 (λ e. absurd (omega arith))) ∙ was.1;
+            of_other = ap (λ m. m % 2048) last_spotted;
+          })
+    ]
+
+    now_shared : (s : ℕ) → s < 2048 → get_or spots' s 0 ≡ 65535 → IsShared room' (count + 1) s
+    now_shared s lt is = elim (cases_eq s (n % 2048)) [
+      | inl same ↦ (
+          let now : get_or spots' s 0 ≡ v = ap (λ r. get_or spots' r 0) same ∙ at_own in
+          subst (IsShared room' (count + 1)) (sym same) (joined (taken_other there count v taken fits (sym now ∙ is))))
+      | inr apart ↦ shared_more room count n s (are.shared s lt (sym (get_or-set_other spots (n % 2048) s v 0 apart) ∙ is))
+    ]
+
     pub spotted_more : AreSpotted (set room count n) (set spots (n % 2048) v) (count + 1)
     spotted_more = record {
       room_is = length-set room count n ∙ are.room_is;
       spots_are = length-set spots (n % 2048) v ∙ are.spots_are;
       within = omega arith;
       spotted = now_spotted;
+      own = now_own;
+      shared = now_shared;
     }
 
 -- no number has a spot
+in_none : (s : ℕ) → s < 2048 → get_or (replicate {A = ℕ} 2048 65534) s 0 ≡ 65534
+in_none s lt = get_or-replicate 2048 s 65534 0 lt
+
 pub none_spotted : (room : List ℕ) → length room ≡ 512 → AreSpotted room (replicate 2048 65534) 0
 none_spotted room long = record {
   room_is = long;
   spots_are = length-replicate {A = ℕ} 2048 65534;
   within = omega arith;
   spotted = λ k lt. absurd (omega arith);
+  own = λ s lt ne. absurd (ne (in_none s lt));
+  shared = λ s lt is. let none : get_or (replicate {A = ℕ} 2048 65534) s 0 ≡ 65534 = in_none s lt in absurd (omega arith);
 }

@@ -1,7 +1,7 @@
 //! The numbers that the hardware addresses of Things spell.
-ghost use Rattle.std.specs.Prelude.{◌≡◌, ◌≢◌, ℕ, ◌%◌, ◌<◌, ◌≤◌, ◌++◌, ◌∷◌, [], length, slice_index, option_copied, IfSome, IfNone};
+ghost use Rattle.std.specs.Prelude.{◌≡◌, ◌≢◌, ℕ, ◌%◌, ◌<◌, ◌≤◌, ◌++◌, ◌∷◌, [], ◌==◌, if◌then◌else◌, length, slice_index, option_copied, IfSome, IfNone};
 ghost use Rattle.table_model.specs.Things.{thing_at};
-ghost use Rattle.thing_book.specs.Numbers.{IsMac, AreNumbersOf, AreRising, mac_number};
+ghost use Rattle.thing_book.specs.Numbers.{IsMac, AreNumbersOf, AreRising, IsShared, mac_number};
 
 use crate::key::number_of;
 use crate::ranges::all_are_octets;
@@ -121,15 +121,15 @@ fn spot_of(number: u64) -> usize
 /// What stands in a spot once the number of this index has it too.
 fn taken_by(there: u16, index: usize) -> u16
     requires { index < 512 }
-    ensures own { result ≢ 65535 → result ≡ index }
-    ensures empty { result ≢ 65535 → there ≡ 65534 }
+    ensures { result ≡ (if there == 65534 then index else 65535) }
 {
     if there == EMPTY { index as u16 } else { SHARED }
 }
 
-/// The index of a number among these.
+/// The index of a number among these, of which several have its spot: no others are searched.
 fn found_in(numbers: &[u64], number: u64) -> Option<usize>
-    requires { AreRising numbers.now }
+    requires rising { AreRising numbers.now }
+    requires shared { IsShared numbers.now (length numbers.now) (number % 2048) }
     ensures found { IfSome result (λ i. (i < length numbers.now) × (slice_index numbers.now i ≡ number)) }
     ensures none { IfNone result ((k : ℕ) → k < length numbers.now → slice_index numbers.now k ≢ number) }
 {

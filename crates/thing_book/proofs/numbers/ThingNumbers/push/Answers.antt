@@ -1,4 +1,4 @@
-use Rattle.std.proofs.Common.{◌≡◌, ℕ, ◌+◌, ◌%◌, ◌<◌, List, [], ◌∷◌, ◌++◌, length, get_or, sym, ap, subst, ◌∙◌, arith}
+use Rattle.std.proofs.Common.{◌≡◌, ℕ, ◌+◌, ◌%◌, ◌<◌, List, [], ◌∷◌, ◌++◌, ◌==◌, if◌then◌else◌, length, get_or, sym, ap, subst, ◌∙◌, arith}
 use Rattle.std.proofs.Math.ListN.{set}
 use Rattle.std.proofs.lemmas.List.{take_more_set}
 use Rattle.thing_book.specs.Numbers.{AreSpotted}
@@ -14,8 +14,8 @@ invariant_of-self c =
     let is : c.spot_of-spot.result ≡ number % 2048 = c.spot_of-spot.ensures.value in
     let fits : count < 512 = omega (arith, c.requires, length_counted room spots count c.self.invariant, ap length c.self.view_is) in
     subst (λ (s : ℕ). AreSpotted (set room count number) (set spots s c.taken_by.result) (count + 1)) (sym is)
-    (spotted_more room spots count c.self.invariant number c.taken_by.result fits c.taken_by.ensures.own
-    (λ ne. ap (λ (s : ℕ). get_or spots s 0) (sym is) ∙ c.taken_by.ensures.empty ne))
+    (spotted_more room spots count c.self.invariant number c.taken_by.result fits
+    (c.taken_by.ensures ∙ ap (λ (s : ℕ). if get_or spots s 0 == 65534 then count else 65535) is))
 
 pub returns-clause-number : goal.returns-clause-number
 returns-clause-number c =

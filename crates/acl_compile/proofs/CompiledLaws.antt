@@ -1,5 +1,5 @@
 -- What is compiled before anything is held.
-use Rattle.std.proofs.Common.{◌≡◌, [], refl, sym, arith}
+use Rattle.std.proofs.Common.{◌≡◌, ℕ, List, [], refl, sym, arith}
 use Rattle.std.proofs.lemmas.Option.{none-some}
 use Rattle.acl_model.specs.Defaults.{default_policy}
 use Rattle.acl_model.specs.FirstMatch.{entries_of}
@@ -7,7 +7,7 @@ use Rattle.acl_rows.specs.Rows.{rows_of, all_rows, holders_from, holder_rows, si
 use Rattle.acl_rows.specs.View.{holder_from}
 use Rattle.acl_compile.specs.Compiled.{UrlsApart}
 use Rattle.acl_compile.specs.Plans.{slot_held}
-use Rattle.acl_compile.specs.UrlSlots.{AreSlotsOf, IsSoundWithSlots}
+use Rattle.acl_compile.specs.UrlSlots.{AreSlotsOf, AreGuessed, IsSoundWithSlots}
 
 no_rows : rows_of [] [] ≡ []
 unfolding rows_of all_rows holders_from holder_rows side_rows entry_rows numbered default_held entries_of
@@ -21,5 +21,9 @@ no_url_slots : AreSlotsOf [] []
 unfolding slot_held holder_from
 no_url_slots url = refl
 
-pub nothing_is_sound : IsSoundWithSlots [] [] [] default_policy []
-nothing_is_sound = record { sound = record { rows_are = sym no_rows; few = omega arith; apart = none_held; defaults_are = refl }; url_slots_are = no_url_slots }
+none_guessed : (guesses : List ℕ) → AreGuessed [] guesses
+unfolding held_by slot_policy
+none_guessed guesses i held is = absurd (none-some held is)
+
+pub nothing_is_sound : (guesses : List ℕ) → IsSoundWithSlots [] [] [] default_policy [] guesses
+nothing_is_sound guesses = record { sound = record { rows_are = sym no_rows; few = omega arith; apart = none_held; defaults_are = refl }; url_slots_are = no_url_slots; guessed = none_guessed guesses }

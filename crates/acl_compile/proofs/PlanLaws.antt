@@ -21,7 +21,7 @@ use Rattle.acl_changes.specs.Policies.{AllHeld}
 use Rattle.acl_changes.specs.Steps.{HolderFits, HaveKeys, sort_key_steps}
 use Rattle.acl_compile.specs.Compiled.{CompiledState, compiled_state, UrlsApart, IsSound}
 use Rattle.acl_compile.specs.Plans.{Plan, slots_with, slots_after, bindings_after, Fits, IsMemberPlan}
-use Rattle.acl_compile.specs.UrlSlots.{UrlAndSlot, AreSlotsOf, IsSoundWithSlots}
+use Rattle.acl_compile.specs.UrlSlots.{UrlAndSlot, AreSlotsOf, AreGuessed, IsSoundWithSlots}
 
 -- ---- Steps
 
@@ -78,17 +78,17 @@ member_plan gone come slots bindings rows row_edits binding_edits few apart patc
 
 -- ---- A commit
 
-pub record IsCommitted (c : CompiledState) (plan : Plan) (slots : Slots) (bindings : List Binding) (rows : List Row) (defaults : Policy) (url_slots : List UrlAndSlot) : Type 0 where
-  pub sound : IsSoundWithSlots slots bindings rows defaults url_slots
+pub record IsCommitted (c : CompiledState) (plan : Plan) (slots : Slots) (bindings : List Binding) (rows : List Row) (defaults : Policy) (url_slots : List UrlAndSlot) (guesses : List ℕ) : Type 0 where
+  pub sound : IsSoundWithSlots slots bindings rows defaults url_slots guesses
   pub slots_are : slots ≡ slots_after plan c
   pub bindings_are : bindings ≡ bindings_after plan c
   pub rows_are : rows ≡ rows_of slots bindings
   pub few : length plan.rows ≤ rows_apart c.rows rows
 
-pub committed : (c : CompiledState) (plan : Plan) (slots : Slots) (bindings : List Binding) (rows : List Row) (defaults : Policy) (url_slots : List UrlAndSlot) → Fits plan c → IsSound c.slots c.bindings c.rows defaults
-    → slots ≡ slots_with plan.slot c.slots → bindings ≡ edited binding_sort_key plan.bindings c.bindings → rows ≡ edited row_sort_key plan.rows c.rows → AreSlotsOf slots url_slots → IsCommitted c plan slots bindings rows defaults url_slots
+pub committed : (c : CompiledState) (plan : Plan) (slots : Slots) (bindings : List Binding) (rows : List Row) (defaults : Policy) (url_slots : List UrlAndSlot) (guesses : List ℕ) → Fits plan c → IsSound c.slots c.bindings c.rows defaults
+    → slots ≡ slots_with plan.slot c.slots → bindings ≡ edited binding_sort_key plan.bindings c.bindings → rows ≡ edited row_sort_key plan.rows c.rows → AreSlotsOf slots url_slots → AreGuessed slots guesses → IsCommitted c plan slots bindings rows defaults url_slots guesses
 unfolding slots_after bindings_after
-committed c plan slots bindings rows defaults url_slots fits sound slots_are bindings_are rows_are url_slots_are =
+committed c plan slots bindings rows defaults url_slots guesses fits sound slots_are bindings_are rows_are url_slots_are guessed =
     let anew : rows ≡ rows_of (slots_after plan c) (bindings_after plan c) = rows_are ∙ ap (edited row_sort_key plan.rows) sound.rows_are ∙ patched c.slots c.bindings (slots_after plan c) (bindings_after plan c) plan.rows fits.patch in
     let same : rows_of (slots_after plan c) (bindings_after plan c) ≡ rows_of slots bindings = (λ i. rows_of (sym slots_are i) (sym bindings_are i)) in
     record {
@@ -100,6 +100,7 @@ committed c plan slots bindings rows defaults url_slots fits sound slots_are bin
           defaults_are = sound.defaults_are;
         };
         url_slots_are = url_slots_are;
+        guessed = guessed;
       };
       slots_are = slots_are;
       bindings_are = bindings_are;

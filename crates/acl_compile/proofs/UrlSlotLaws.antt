@@ -1,21 +1,21 @@
 -- The slots of URLs: what is found by them, and how they follow the table of policies.
-use Rattle.std.proofs.Common.{◌≡◌, ℕ, Bool, true, false, cond, List, reverse, Option, Some, None, refl, sym, ap, subst, ◌∙◌, arith}
-use Rattle.std.specs.Prelude.{◌+◌}
+use Rattle.std.proofs.Common.{◌≡◌, ℕ, ◌<◌, ◌≤◌, Bool, true, false, cond, inl, inr, List, length, reverse, get_or, Option, Some, None, refl, sym, ap, subst, ◌∙◌, arith}
+use Rattle.std.specs.Prelude.{◌≢◌, ◌+◌, slice_index}
 use Rattle.std.specs.Option.{option_map}
 use Rattle.std.specs.Cmp.{both_ways}
-use Rattle.std.proofs.lemmas.Bool.{false≢true}
+use Rattle.std.proofs.lemmas.Bool.{false≢true, cases_eq, cases_lt}
 use Rattle.std.proofs.lemmas.List.{reverse-reverse}
-use Rattle.std.proofs.lemmas.Option.{same_Some, none-some}
+use Rattle.std.proofs.lemmas.Option.{same_Some, none-some, slice_get_past, slice_get_read}
 use Rattle.base_rows.specs.Sortable.{SortKeysAscend, same_sort_key, row_at}
 use Rattle.base_rows.proofs.SortableLaws.{row_at-set_row, row_at-without_row, same_sort_key_exact, same_sort_key_itself}
 use Rattle.acl_model.specs.Policies.{UrlPolicy}
 use Rattle.acl_rows.specs.declared.row.Owner.TheVariants.{Url}
-use Rattle.acl_rows.specs.Rows.{Slots, Holder, held_by}
+use Rattle.acl_rows.specs.Rows.{Slots, Holder, held_by, slot_policy}
 use Rattle.acl_rows.specs.View.{holder_from}
 use Rattle.acl_changes.specs.PolicyTouched.{IsSlotChange}
 use Rattle.acl_compile.specs.Compiled.{UrlsApart}
 use Rattle.acl_compile.specs.Plans.{holder_owner, slot_held}
-use Rattle.acl_compile.specs.UrlSlots.{UrlAndSlot, url_of, owner_of, AreSlotsOf, url_slots_without, url_slots_with}
+use Rattle.acl_compile.specs.UrlSlots.{UrlAndSlot, url_of, owner_of, guess_number, guess_at, HasOwnGuess, AreGuessed, AreSlotsOf, url_slots_without, url_slots_with}
 use Rattle.acl_compile.proofs.SlotLaws.{FoundAt, found_at, unique, is_own, holder_stays, holder_gone, Url_same}
 use Rattle.acl_changes.proofs.Loops.{slot_holds}
 
@@ -111,3 +111,41 @@ module _ (slots slots' : Slots) (i : ℕ) (new : Option UrlPolicy) (change : IsS
       ∙ ap (λ (x : Option UrlAndSlot). cond (is_own url new) (Some (Url i)) (option_map owner_of x)) (found_without (held_by slots (Url i)) url_slots url ascend)
       ∙ ap (cond (is_own url new) (Some (Url i))) (mapped (is_own url (held_by slots (Url i))) None (row_at url_of (reverse url) url_slots) ∙ ap (cond (is_own url (held_by slots (Url i))) None) (are url))
       ∙ after_by url (is_own url new) (is_own url (held_by slots (Url i))) refl refl
+
+-- ---- Guesses
+
+-- the first slots are guessed for their URLs
+abbrev pub AreGuessedTo : ℕ → Slots → List ℕ → Type 0
+AreGuessedTo n slots guesses = (i : ℕ) (held : UrlPolicy) → i < n → held_by slots (Url i) ≡ Some held → HasOwnGuess slots i held.url → guess_at guesses held.url ≡ i
+
+held_within : (slots : Slots) (i : ℕ) (held : UrlPolicy) → held_by slots (Url i) ≡ Some held → i < length slots
+unfolding held_by slot_policy
+held_within slots i held is = elim (cases_lt i (length slots)) [
+  | inl within ↦ within
+  | inr past ↦ absurd (none-some held (sym (ap slot_policy (slice_get_past slots i past)) ∙ is))
+]
+
+-- a slot that is gone through
+pub at_slot : (slots : Slots) (k : ℕ) (slot : Option UrlPolicy) → k < length slots → slot ≡ get_or slots k slot → held_by slots (Url k) ≡ slot
+unfolding held_by slot_policy
+at_slot slots k slot lt is = ap slot_policy (slice_get_read slots (length slots) k slot refl lt is)
+
+pub all_guessed : (n : ℕ) (slots : Slots) (guesses : List ℕ) → length slots ≤ n → AreGuessedTo n slots guesses → AreGuessed slots guesses
+all_guessed n slots guesses past are i held is own = are i held (omega (arith, held_within slots i held is)) is own
+
+module _ (k : ℕ) (slots : Slots) (guesses : List ℕ) (are : AreGuessedTo k slots guesses) where
+  pub none_guessed : held_by slots (Url k) ≡ None → AreGuessedTo (k + 1) slots guesses
+  none_guessed none i held lt is own = elim (cases_eq i k) [
+    | inl same ↦ absurd (none-some held (sym none ∙ ap (λ (j : ℕ). held_by slots (Url j)) (sym same) ∙ is))
+    | inr apart ↦ are i held (omega arith) is own
+  ]
+
+  module _ (new : UrlPolicy) (there : held_by slots (Url k) ≡ Some new) (guesses' : List ℕ) (guessed : guess_at guesses' new.url ≡ k) (others : (n : ℕ) → n ≢ guess_number new.url → slice_index guesses' n ≡ slice_index guesses n) where
+    pub one_guessed : AreGuessedTo (k + 1) slots guesses'
+    unfolding guess_at
+    one_guessed i held lt is own = elim (cases_eq i k) [
+      | inl same ↦ (
+          let new_is : held ≡ new = same_Some held new (sym is ∙ ap (λ (j : ℕ). held_by slots (Url j)) same ∙ there) in
+          ap (λ (h : UrlPolicy). slice_index guesses' (guess_number h.url)) new_is ∙ guessed ∙ sym same)
+      | inr apart ↦ others (guess_number held.url) (λ shared. apart (sym (own k new there (sym shared)))) ∙ are i held (omega arith) is own
+    ]

@@ -1,5 +1,5 @@
 -- The slots of URLs in the table of policies: a ruling finds the policy of a URL by them.
-use Rattle.std.specs.Prelude.{◌≡◌, ℕ, zero, suc, ◌+◌, ◌*◌, ◌^◌, List, reverse, slice_index, Option, Some, None, option_map}
+use Rattle.std.specs.Prelude.{◌≡◌, ℕ, zero, suc, ◌+◌, ◌*◌, ◌%◌, ◌^◌, List, reverse, slice_index, Option, Some, None, option_map}
 use Rattle.base_rows.specs.Sortable.{row_at, set_row, without_row}
 use Rattle.acl_model.specs.declared.entry.Policy.{Policy}
 use Rattle.acl_model.specs.declared.binding.Binding.{Binding}
@@ -7,7 +7,7 @@ use Rattle.acl_model.specs.Policies.{UrlPolicy}
 use Rattle.acl_rows.specs.declared.row.Owner.{Owner}
 use Rattle.acl_rows.specs.declared.row.Owner.TheVariants.{Url}
 use Rattle.acl_rows.specs.declared.row.Row.{Row}
-use Rattle.acl_rows.specs.Rows.{Slots}
+use Rattle.acl_rows.specs.Rows.{Slots, held_by}
 use Rattle.acl_compile.specs.Compiled.{IsSound}
 use Rattle.acl_compile.specs.Plans.{slot_held}
 
@@ -33,10 +33,27 @@ lead (suc n) k p = slice_index p k * 256 ^ n + lead n (suc k) p
 abbrev pub AreSlotsOf : Slots → List UrlAndSlot → Type 0
 AreSlotsOf slots url_slots = (url : List ℕ) → option_map owner_of (row_at url_of (reverse url) url_slots) ≡ slot_held slots url
 
--- what is compiled is sound, and the slots are those of the policies
-pub record IsSoundWithSlots (slots : Slots) (bindings : List Binding) (rows : List Row) (defaults : Policy) (url_slots : List UrlAndSlot) : Type 0 where
+-- which of 1,021 guesses is that of a URL: by the number of its last eight octets
+unfoldable pub guess_number : List ℕ → ℕ
+guess_number url = lead 8 0 (reverse url) % 1021
+
+-- the slot that is guessed for a URL
+unfoldable pub guess_at : List ℕ → List ℕ → ℕ
+guess_at guesses url = slice_index guesses (guess_number url)
+
+-- no policy in another slot is of a URL with the same guess as that of this slot
+abbrev pub HasOwnGuess : Slots → ℕ → List ℕ → Type 0
+HasOwnGuess slots i url = (j : ℕ) (other : UrlPolicy) → held_by slots (Url j) ≡ Some other → guess_number other.url ≡ guess_number url → j ≡ i
+
+-- for a URL whose guess is no other's its slot is guessed
+abbrev pub AreGuessed : Slots → List ℕ → Type 0
+AreGuessed slots guesses = (i : ℕ) (held : UrlPolicy) → held_by slots (Url i) ≡ Some held → HasOwnGuess slots i held.url → guess_at guesses held.url ≡ i
+
+-- what is compiled is sound, the slots are those of the policies, and they are guessed
+pub record IsSoundWithSlots (slots : Slots) (bindings : List Binding) (rows : List Row) (defaults : Policy) (url_slots : List UrlAndSlot) (guesses : List ℕ) : Type 0 where
   pub sound : IsSound slots bindings rows defaults
   pub url_slots_are : AreSlotsOf slots url_slots
+  pub guessed : AreGuessed slots guesses
 
 -- the slots without that of a policy which goes
 unfoldable pub url_slots_without : Option UrlPolicy → List UrlAndSlot → List UrlAndSlot

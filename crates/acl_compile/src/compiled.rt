@@ -58,7 +58,7 @@ impl Model for Compiled {
 
     ghost view = { λ c. record { slots = c.slots.items; bindings = c.bindings.rows; rows = c.rows.rows; slot_room = vec_capacity c.slots - vec_len c.slots; url_slot_room = c.url_slots.room; binding_room = c.bindings.room; row_room = c.rows.room } };
 
-    ghost invariant = { λ c. IsSoundWithSlots c.slots.items c.bindings.rows c.rows.rows c.defaults c.url_slots.rows };
+    ghost invariant = { λ c. IsSoundWithSlots c.slots.items c.bindings.rows c.rows.rows c.defaults c.url_slots.rows c.guesses };
 }
 
 impl Compiled {
@@ -183,9 +183,9 @@ impl Compiled {
         self.rows.make_edits(rows, steps);
         self.bindings.make_edits(bindings, steps);
         if let Some((index, held)) = slot {
-            self.guesses.keep(&held, index);
             set_url_slot(&mut self.url_slots, self.slots.as_slice(), index, &held);
             set_slot(&mut self.slots, index, held);
+            self.guesses.write(self.slots.as_slice());
         }
     }
 }

@@ -1,12 +1,12 @@
 //! The slots of URLs in the table of policies, in the order of the URLs' texts, read from behind.
-ghost use Rattle.std.specs.Prelude.{◌≡◌, ◌<◌, ◌≤◌, true, Some, bytes_eq, length, reverse, slice_index, option_copied, option_map, IfSome};
+ghost use Rattle.std.specs.Prelude.{◌≡◌, ◌≢◌, ℕ, ◌<◌, ◌≤◌, true, Some, bytes_eq, length, reverse, slice_index, option_copied, option_map, IfSome};
 ghost use Rattle.base_rows.specs.Sortable.{sort_key_cmp};
 ghost use Rattle.acl_rows.specs.Rows.{held_by};
 ghost use Rattle.acl_rows.specs.View.{holder_from};
 ghost use Rattle.acl_compile.specs.Compiled.{UrlsApart};
 ghost use Rattle.acl_compile.specs.Plans.{slot_set};
 ghost use Rattle.mud_base.specs.Numbers.{IsOctets};
-ghost use Rattle.acl_compile.specs.UrlSlots.{lead, AreSlotsOf, url_slots_without, url_slots_with};
+ghost use Rattle.acl_compile.specs.UrlSlots.{lead, guess_number, guess_at, AreGuessed, AreSlotsOf, url_slots_without, url_slots_with};
 
 use acl_changes::Held;
 use acl_rows::Owner;
@@ -229,10 +229,18 @@ pub(crate) fn find_held<'a>(
 const GUESS_COUNT: usize = 1021;
 
 /// In which slot the policy of a URL probably is held, by the last eight octets of its text. What
-/// is guessed is looked at before it is believed, so contracts say nothing of it.
+/// is guessed is looked at before it is believed. Contracts see the list of the guesses.
 #[derive(Drop)]
 pub(crate) struct SlotGuesses {
     url_slots: [u16; GUESS_COUNT],
+}
+
+impl Model for SlotGuesses {
+    ghost use Rattle.std.specs.Prelude.{ℕ, List};
+
+    ghost Value = { List ℕ };
+
+    ghost view = { λ g. g.url_slots };
 }
 
 impl SlotGuesses {
@@ -244,21 +252,42 @@ impl SlotGuesses {
     }
 
     /// The slot that is guessed for a URL.
-    fn slot_number(&self, url: &MudUrl) -> u16 {
+    #[tactic(auto, unfolding(crate::specs::UrlSlots::guess_at))]
+    fn slot_number(&self, url: &MudUrl) -> u16
+        ensures { result ≡ guess_at self.now url.now }
+    {
         self.url_slots[guess_of(url)]
     }
 
     /// From now on this slot is guessed for the URL of a policy.
-    pub(crate) fn keep(&mut self, held: &Option<Held>, index: usize) {
-        if let Some(held) = held {
-            self.url_slots[guess_of(held.url())] = u16::try_from(index).unwrap_or(0);
+    #[tactic(auto, unfolding(crate::specs::UrlSlots::guess_at))]
+    fn keep(&mut self, held: &Held, index: usize)
+        requires { index < 65536 }
+        ensures own { guess_at self.new held.now.url ≡ index }
+        ensures others { (n : ℕ) → n ≢ guess_number held.now.url → slice_index self.new n ≡ slice_index self.old n }
+    {
+        self.url_slots[guess_of(held.url())] = index as u16;
+    }
+
+    /// Guesses the slots of these policies for their URLs. Where several URLs have one guess, it is
+    /// that of the last one.
+    pub(crate) fn write(&mut self, slots: &[Option<Held>])
+        requires { length slots.now ≤ 128 }
+        ensures { AreGuessed slots.now self.new }
+    {
+        for (index, slot) in slots.iter().enumerate() {
+            if let Some(held) = slot {
+                self.keep(held, index);
+            }
         }
     }
 }
 
 /// Which of the guesses is that of a URL.
+#[tactic(auto, unfolding(crate::specs::UrlSlots::guess_number))]
 fn guess_of(url: &MudUrl) -> usize
-    ensures { result < 1021 }
+    ensures value { result ≡ guess_number url.now }
+    ensures within { result < 1021 }
 {
     (end_number(url.text()) % GUESS_COUNT as u64) as usize
 }

@@ -37,7 +37,6 @@ checks: build
 	checks/run -j "$$(nproc)" gate checks minutes
 	bash checks/stopped-stores
 	bash checks/made-network
-	bash checks/hostile-inputs
 	checks/failing-calls
 
 proofs:

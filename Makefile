@@ -35,7 +35,6 @@ test:
 
 checks: build
 	checks/run -j "$$(nproc)" gate checks minutes
-	bash checks/stopped-stores
 	bash checks/made-network
 	checks/failing-calls
 

@@ -36,7 +36,6 @@ test:
 checks: build
 	checks/run -j "$$(nproc)" gate checks minutes
 	bash checks/made-network
-	checks/failing-calls
 
 proofs:
 	@checks/print proofs

@@ -47,7 +47,7 @@ limits: build
 	checks/run far-limits
 
 memory: build
-	checks/failing-allocations
+	checks/run -j "$$(nproc)" failing-allocations
 
 plants:
 	checks/run $(if $(CRATES),$(addprefix wrong-bodies.,$(CRATES)),wrong-bodies)

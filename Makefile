@@ -35,10 +35,7 @@ test:
 
 checks: build
 	checks/run -j "$$(nproc)" gate checks minutes
-	bash checks/stopped-stores
 	bash checks/made-network
-	bash checks/hostile-inputs
-	checks/failing-calls
 
 proofs:
 	@checks/print proofs
@@ -50,7 +47,7 @@ limits: build
 	checks/run far-limits
 
 memory: build
-	checks/failing-allocations
+	checks/run -j "$$(nproc)" failing-allocations
 
 plants:
 	checks/run $(if $(CRATES),$(addprefix wrong-bodies.,$(CRATES)),wrong-bodies)

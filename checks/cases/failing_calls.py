@@ -1,7 +1,4 @@
-#!/usr/bin/env python3
 """Lets each single call of the built program to the system fail, one after the other.
-
-    checks/failing-calls [SCENE ..]      these scenes alone, by the words that they begin with
 
 strace answers a call with EIO in the system's place: the first read of a run, in a run of its own the
 second one, and so on until a run has none left; likewise each write, each opening of a file, and the
@@ -22,22 +19,24 @@ a failure write and keep. Of each other run this has to hold, by what the failin
   port              Status 4: it can't be listened on, or the next connection can't be taken.
 
 With 4 and 7, and where the answer is 503, standard error is told why, and else nothing. Where a failure
-does no harm all is as due; never is there another answer. The last line is 'N passed, M failed', where
-each call that failed counts one. It needs python3, awk, and strace with leave to
-trace; without these it says what it leaves out. MUD names another program than the built one,
-and ERROR another error than EIO, as ENOSPC.
+does no harm all is as due; never is there another answer. Each call that failed counts one. ERROR names another error
+than EIO, as ENOSPC.
 """
+import functools
 import os
 import re
 import shutil
 import socket
 import subprocess
-import sys
 import tempfile
 import threading
 import time
-from collections import Counter
 from concurrent.futures import ThreadPoolExecutor
+
+from checks import session
+from checks.case import ProgramCase, cases_of, needs
+from checks.cases.stopped_stores import change
+from checks.program import PROGRAM, copy_store, free_port, listens, read, run
 
 CALLS = """open openat read pread64 readv recvfrom write pwrite64 writev sendto lseek stat fstat lstat newfstatat
     statx access faccessat faccessat2 getdents64 fsync fdatasync ftruncate fallocate flock fcntl unlink unlinkat
@@ -51,15 +50,7 @@ LONGEST = 60
 MOST_IN_LOG = 494
 KEEPER = (b"HTTP/1.1 503 Service Unavailable\r\nContent-Type: application/json\r\n"
           b"Content-Length: 17\r\n\r\n{\"rule\":\"keeper\"}")
-HERE = os.path.dirname(os.path.dirname(os.path.abspath(__file__)))
-PROGRAM = os.path.abspath(os.environ.get("MUD", os.path.join(HERE, "crates/mud/out/mud")))
 ERROR = os.environ.get("ERROR", "EIO")
-EXAMPLES = os.path.join(HERE, "examples")
-
-
-def read(name):
-    with open(os.path.join(EXAMPLES, name), "rb") as file:
-        return file.read()
 
 
 class Call:
@@ -142,8 +133,8 @@ def ended(process):
 def tables_of(store):
     """The listings of a store that is opened again, and the status."""
     requests = "".join(f"GET /{table} HTTP/1.1\r\nMud-Moment: 0\r\n\r\n" for table in TABLES).encode()
-    done = subprocess.run([PROGRAM, "replay", store], input=requests, stdout=subprocess.PIPE, check=False)
-    return done.returncode, done.stdout
+    ended = run("replay", store, input=requests)
+    return ended.status, ended.out
 
 
 class Scene:
@@ -160,8 +151,8 @@ class Scene:
 
     def prepare(self, run, items):
         """Copies the store that was made before, where there is one."""
-        for end in ("", "-wal") if self.copied else ():
-            shutil.copy(self.copied + end, run.store + end)
+        if self.copied:
+            copy_store(self.copied, run.store)
 
     def input(self, items):
         return self.pieces
@@ -316,9 +307,7 @@ class Serve(Scene):
         return super().words(run) + [str(run.port), str(len(self.items))]
 
     def prepare(self, run, items):
-        with socket.socket() as free:
-            free.bind(("127.0.0.1", 0))
-            run.port = free.getsockname()[1]
+        run.port = free_port()
 
     def carry_out(self, run, items, command):
         words = command[:-1] + [str(max(len(items), 1))]
@@ -350,11 +339,6 @@ class Serve(Scene):
                     and run.wrote[served + 1:] == due[served + 1:]
                     and run.tables == self.undisturbed(carried_out).tables)
         return self.is_due(run)
-
-
-def listens(port):
-    with open("/proc/net/tcp") as table:
-        return any(line.split()[1].endswith(f":{port:04X}") and line.split()[3] == "0A" for line in list(table)[1:])
 
 
 def ask(port, octets):
@@ -401,28 +385,17 @@ def each_failure(scene, several):
             yield run, is_right
 
 
-def requests_of(session):
+def requests_of(path):
     """The requests of the first run of a session of examples."""
-    folder = tempfile.mkdtemp()
-    awk = ["awk", "-v", "folder=" + folder, "-f", "checks/sessions.awk", session]
-    subprocess.run(awk, cwd=HERE, check=True, env=dict(os.environ, LC_ALL="C"))
-    with open(os.path.join(folder, "1.octets"), "rb") as file:
-        octets = file.read()
-    with open(os.path.join(folder, "1.places")) as file:
-        ends = [int(line.split()[1]) for line in file]
-    return [octets[begin:end] for begin, end in zip([0] + ends, ends)]
+    one = session.runs_of(path)[0]
+    ends = [end for _, end, _ in one.places]
+    return [one.octets[begin:end] for begin, end in zip([0] + ends, ends)]
 
 
-def change(number):
-    """One of many changes, each of which is kept by itself."""
-    body = '{"address":"192.0.2.%d","class":"urn:example:%03d"}' % (number % 64, number // 64)
-    return f"POST /classes HTTP/1.1\r\nMud-Moment: 5\r\nContent-Length: {len(body)}\r\n\r\n{body}".encode()
-
-
-def made(name, requests):
+def made(requests):
     """The store that the requests make."""
-    store = os.path.join(tempfile.gettempdir(), name)
-    subprocess.run([PROGRAM, "replay", store], input=b"".join(requests), stdout=subprocess.DEVNULL, check=True)
+    store = tempfile.mktemp()
+    run("replay", store, input=b"".join(requests))
     return store
 
 
@@ -430,70 +403,79 @@ def cut(octets, size):
     return [octets[at:at + size] for at in range(0, len(octets), size)]
 
 
-def scenes():
-    bulb = read("usage-files/made-lightbulb.json")
-    two = requests_of("examples/replay/in-pieces.session")
-    network = requests_of("examples/report/network.session")
-    tour = requests_of("examples/replay/tour.session")
-    listings = [f"GET /{table} HTTP/1.1\r\nMud-Moment: 6\r\n\r\n".encode() for table in ("locals", "classes")]
-    many = [change(number) for number in range(MOST_IN_LOG + 3)]
-    network_store, long_store = made("network", network), made("long", many[:MOST_IN_LOG])
-    capture, trunk = read("judge/made-bulb.pcap"), read("captures/vlan-trunk.pcap")
+def two():
+    return requests_of("examples/replay/in-pieces.session")
+
+
+def network():
+    return requests_of("examples/report/network.session")
+
+
+def judged():
+    return cut(read("examples/judge/made-bulb.pcap"), 100)
+
+
+def log_in_run():
+    """The log of a file is written into it once it is long: within a run."""
+    scene = Replay(["replay", "{store}"], [change(number, 5) for number in range(MOST_IN_LOG + 3)], 100_000)
+    scene.names, scene.first = KEEPS, 2 * MOST_IN_LOG - 4
+    return scene
+
+
+def log_by_next():
+    """The same by the next run."""
+    many = [change(number, 5) for number in range(MOST_IN_LOG + 3)]
+    scene = Replay(["replay", "{store}"], many[MOST_IN_LOG:], copied=made(many[:MOST_IN_LOG]))
+    scene.names = KEEPS
+    return scene
+
+
+def files_imported():
+    bulb = read("examples/usage-files/made-lightbulb.json")
     makers = [(f"100{k}-bulb.json", bulb.replace(b"lightbulb2000", b"lightbulb%d" % k)) for k in range(3)]
-    yield Scene(["hear", "dhcp"], cut(read("dhcp/made-url-and-more.bin"), 100))
-    yield Scene(["hear", "lldp"], cut(read("lldp/made-url-of-255.bin"), 100))
-    yield Scene(["check"], cut(bulb, 300))
-    yield Capture(["frames"], cut(trunk, 777))
-    yield Capture(["judge", ":memory:"], cut(capture, 100))
-    yield Capture(["judge", "{store}"], cut(capture, 100), network_store)
-    yield Scene(["drill", "5"])
-    yield Scene(["report", "{store}", "things"], copied=network_store)
-    yield Replay(["replay", ":memory:"], two)
-    yield Replay(["replay", ":memory:"], two, 50)
-    yield Replay(["replay", ":memory:"], tour, 1000)
-    yield Replay(["replay", "{store}"], two + listings)
-    yield Replay(["replay", "{store}"], network, 1000)
-    # the log of a file is written into it once it is long: within a run, and by the next run
-    in_run = Replay(["replay", "{store}"], many[:MOST_IN_LOG + 3], 100_000)
-    in_run.names, in_run.first = KEEPS, 2 * MOST_IN_LOG - 4
-    yield in_run
-    by_next = Replay(["replay", "{store}"], many[MOST_IN_LOG:MOST_IN_LOG + 3], copied=long_store)
-    by_next.names = KEEPS
-    yield by_next
-    yield Serve(["serve", "{store}"], two)
-    yield Import(["import", "{store}", "{files}"], makers)
+    return Import(["import", "{store}", "{files}"], makers)
 
 
-def main():
-    chosen = " ".join(sys.argv[1:])
-    if not os.access(PROGRAM, os.X_OK):
-        print(f"checks/failing-calls: no program '{PROGRAM}' (./build makes it)", file=sys.stderr)
-        return 2
-    with tempfile.TemporaryDirectory() as folder, ThreadPoolExecutor(os.cpu_count()) as several:
-        tempfile.tempdir = folder
-        try:
-            subprocess.run(["strace", "-o", os.path.join(folder, "log"), "true"], check=True, stderr=subprocess.DEVNULL)
-        except (OSError, subprocess.CalledProcessError):
-            print("left out, as there is no strace or no leave to trace: each failing call")
-            return 0
-        passed = failed = 0
-        for scene in scenes():
-            words = " ".join(scene.given)
-            if not words.startswith(chosen):
-                continue
-            found = Counter()
-            for run, is_right in each_failure(scene, several):
-                if run.hit is None or run.hit.on == "loader":
-                    continue
-                found[run.hit.on] += 1
-                passed, failed = passed + is_right, failed + (not is_right)
-                if not is_right:
-                    print(f"{words}, where {run.hit.line}\n  ended with {run.status} and wrote {run.wrote!r:.500}\n"
-                          f"  and keeps {run.tables!r:.500}\n  and says {run.said!r:.500}")
-            print(f"{words}: " + ", ".join(f"{count} {place}" for place, count in sorted(found.items())), flush=True)
-    print(f"{passed} passed, {failed} failed")
-    return int(failed > 0 or passed == 0)
+def requests_kept():
+    return Replay(["replay", "{store}"], two() + [f"GET /{table} HTTP/1.1\r\nMud-Moment: 6\r\n\r\n".encode() for table in ("locals", "classes")])
 
 
-if __name__ == "__main__":
-    sys.exit(main())
+SCENES = {
+    "hear_dhcp": lambda: Scene(["hear", "dhcp"], cut(read("examples/dhcp/made-url-and-more.bin"), 100)),
+    "hear_lldp": lambda: Scene(["hear", "lldp"], cut(read("examples/lldp/made-url-of-255.bin"), 100)),
+    "check": lambda: Scene(["check"], cut(read("examples/usage-files/made-lightbulb.json"), 300)),
+    "frames": lambda: Capture(["frames"], cut(read("examples/captures/vlan-trunk.pcap"), 777)),
+    "judge_in_memory": lambda: Capture(["judge", ":memory:"], judged()),
+    "judge": lambda: Capture(["judge", "{store}"], judged(), made(network())),
+    "drill": lambda: Scene(["drill", "5"]),
+    "report": lambda: Scene(["report", "{store}", "things"], copied=made(network())),
+    "replay_in_memory": lambda: Replay(["replay", ":memory:"], two()),
+    "replay_in_pieces": lambda: Replay(["replay", ":memory:"], two(), 50),
+    "replay_tour": lambda: Replay(["replay", ":memory:"], requests_of("examples/replay/tour.session"), 1000),
+    "replay_kept": requests_kept,
+    "replay_network": lambda: Replay(["replay", "{store}"], network(), 1000),
+    "log_in_run": log_in_run,
+    "log_by_next": log_by_next,
+    "serve": lambda: Serve(["serve", "{store}"], two()),
+    "import": files_imported,
+}
+
+
+@functools.lru_cache(None)
+def may_trace():
+    return subprocess.run(["strace", "-o", "/dev/null", "true"], stderr=subprocess.DEVNULL, check=False).returncode == 0
+
+
+@needs("strace")
+@cases_of(SCENES)
+class FailingCalls(ProgramCase):
+    def each(self, name):
+        if not may_trace():
+            self.skipTest("there is no leave to trace")
+        tempfile.tempdir = self.folder
+        self.addCleanup(setattr, tempfile, "tempdir", None)
+        with ThreadPoolExecutor(os.cpu_count()) as several:
+            for run, is_right in each_failure(SCENES[name](), several):
+                if run.hit and run.hit.on != "loader":
+                    self.holds(run.hit.line, is_right, f"ended with {run.status} and wrote {run.wrote!r:.500}\n"
+                               f"  and keeps {run.tables!r:.500}\n  and says {run.said!r:.500}")

@@ -2,14 +2,14 @@
 //! over them.
 #![tactic(auto)]
 
-mod run;
 mod store;
+mod store_runs;
 
 ghost use Rattle.std.specs.Prelude.{◌≡◌, IfSome};
 ghost use Rattle.run_words.specs.Operands.{folder_in, store_in};
 ghost use Rattle.run_words.specs.Words.{command_in, words_of};
 
-use crate::run::run_store;
+use crate::store_runs::run_store;
 use io_system::{Call, Failure, RealClock, RealDoor, RealSpool};
 use item_codec::kinds::CLASS_KIND;
 use mud_cli::Status;

@@ -1,5 +1,5 @@
 //! A run over the store that its words name.
-ghost use Rattle.std.specs.Prelude.{◌≡◌, ◌×◌, ◌↔◌, None};
+ghost use Rattle.std.specs.Prelude.{◌≡◌, ◌↔◌, None};
 ghost use Rattle.run_common.specs.Status.{Is};
 ghost use Rattle.run_common.specs.declared.status.Status.TheVariants.{Unlisted};
 ghost use Rattle.run_words.specs.Words.{command_in, words_of};

@@ -96,9 +96,9 @@ def entries(*written, version=4, side="from", **more):
 
 
 def lines_of(*paths, words=()):
-    """Status and lines of a run of explain."""
-    command = [sys.executable, explaining.SCRIPT, *words, "--mud", PROGRAM, *paths]
-    run = subprocess.run(command, stdout=subprocess.PIPE, stderr=subprocess.PIPE, check=False)
+    """Status and lines of a run of explain where only ASCII can be written."""
+    command, told = [sys.executable, explaining.SCRIPT, *words, "--mud", PROGRAM, *paths], {**os.environ, "PYTHONIOENCODING": "ascii"}
+    run = subprocess.run(command, stdout=subprocess.PIPE, stderr=subprocess.PIPE, check=False, env=told)
     return run.returncode, run.stdout.decode(), run.stderr.decode()
 
 
@@ -186,10 +186,20 @@ class Sentences(ProgramCase):
                 ({"tcp": {"destination-port": {"operator": "neq", "port": 80}}}, "accept",
                  "Everything else that the Thing sends is dropped, also ping and HTTP to port 80."),
                 ({"ipv4": {"protocol": 6, "destination-ipv4-network": "192.0.2.0/24"}}, "accept",
-                 "Everything else that the Thing sends is dropped, also ping; and, to addresses that no entry speaks of, "
+                 "Everything else that the Thing sends is dropped, also ping; and, to addresses to which no entry lets such a packet pass, "
                  "also HTTP to port 80, HTTPS to port 443 and SSH to port 22.")):
             file = explained(octets_of(usage_file([("from", 4, [ace("e", matches, forwarding)])])))
             self.note(json.dumps(matches), wanted, file["rest"]["from"])
+
+    def test_rest_of_several(self):
+        """What is dropped behind entries that speak of any address, and behind one that never decides."""
+        tcp, hub = {"tcp": {"destination-port": {"operator": "neq", "port": 7}}}, {MUD: {"controller": HUB}}
+        lists = [("from", 4, [ace("a", tcp), ace("b", hub)]), ("to", 6, [ace("c", {}, "drop"), ace("d", {})])]
+        file = explained(octets_of(usage_file(lists)))
+        self.note("some", "Everything else that the Thing sends is dropped; and, to addresses to which no entry lets such a packet pass, "
+                  "also ping.", file["rest"]["from"])
+        self.note("none", "Everything else that is sent to the Thing is dropped, also ping, HTTP to port 80, HTTPS to port 443 and SSH "
+                  "to port 22.", file["rest"]["to"])
 
     def test_needs(self):
         peer = {"manufacturer": "a.example", "same-manufacturer": None, "model": "https://a.example/b", "local-networks": None,
@@ -199,7 +209,45 @@ class Sentences(ProgramCase):
         wanted = {"manufacturer": ["from 1"], "same-manufacturer": ["from 1"], "model": ["from 1"], "local-networks": ["from 1"],
                   "my-controller": ["from 1"], "name": ["from 1"], HUB: ["from 1", "from 2"], "urn:ietf:params:mud:dns": ["the default for DNS"],
                   "urn:ietf:params:mud:ntp": ["the default for NTP"]}
-        self.note("needs", wanted, {need["value"] if need["kind"] == "controller" else need["kind"]: need["entries"] for need in file["needs"]})
+        found = {}
+        for need in file["needs"]:
+            found.setdefault(need["value"] if need["kind"] == "controller" else need["kind"], []).extend(need["entries"])
+        self.note("needs", wanted, found)
+
+    def test_needs_of_each_version(self):
+        """What is needed says of which IP version, and by which entries of it."""
+        tests = {MUD: {"controller": HUB, "local-networks": None, "my-controller": None, "model": "https://a.example/b"}}
+        name = {"ipv6": {"ietf-acldns:dst-dnsname": "c.example"}}
+        file = explained(octets_of(usage_file([("from", 4, [ace("a", tests)]), ("from", 6, [ace("b", tests), ace("c", name)])])))
+        said = [need["words"] for need in file["needs"]]
+        for wanted in (f'an IPv4 address has to be bound to the class "{HUB}" (from 1).', f'an IPv6 address has to be bound to the class "{HUB}" (from 2).',
+                       'an IPv4 or IPv6 address has to be bound to the class "urn:ietf:params:mud:dns" (the default for DNS).',
+                       "the IPv4 local networks have to be named (from 1).", "the IPv6 local networks have to be named (from 2).",
+                       f"an IPv4 address has to be bound as my-controller-of {URL} (from 1).",
+                       f"an IPv6 address has to be bound as my-controller-of {URL} (from 2).",
+                       "the IPv6 addresses of the name c.example have to be told (from 3).",
+                       "a Thing of the model https://a.example/b has to have a lease of an IPv4 address (from 1).",
+                       "a Thing of the model https://a.example/b has to have a posted lease of an IPv6 address, as none is heard in DHCP (from 2)."):
+            self.note(wanted, 1, said.count(wanted))
+        self.note("how many", 11, len(said))
+
+    def test_needs_of_what_decides(self):
+        """An entry that never decides needs nothing, nor does a default that leaves nothing to decide."""
+        hub, never = {MUD: {"controller": HUB}}, {MUD: {"my-controller": None}, "ipv4": {"protocol": 17}, "tcp": {}}
+        dns = [(side, version, [ace("e", {"udp": {f"{end}-port": {"port": 53}}}, "drop")])
+               for version in (4, 6) for side, end in (("from", "destination"), ("to", "source"))]
+        both = [("dns", "either", "the default for DNS"), ("ntp", "either", "the default for NTP")]
+        for what, lists, wanted in (
+                ("as it is", [("from", 4, [ace("a", hub)])], [(HUB, "4", "from 1"), *both]),
+                ("never", [("from", 4, [ace("a", never)])], both), ("none", dns, both[1:]),
+                ("one side", [dns[0], dns[2]], [("dns", "either", "the default for DNS of what it receives"), both[1]]),
+                ("one version", dns[:2], [("dns", "6", "the default for DNS"), both[1]]),
+                ("one version of one side", dns[:1], [("dns", "6", "the default for DNS of what it sends"),
+                                                      ("dns", "either", "the default for DNS of what it receives"), both[1]]),
+                ("pointless", [(side, 4, [ace("a", {}), ace("b", hub)]) for side in ("from", "to")],
+                 [("dns", "6", "the default for DNS"), ("ntp", "6", "the default for NTP")])):
+            needs = explained(octets_of(usage_file(lists)))["needs"]
+            self.note(what, wanted, [(need["value"].rpartition("mud:")[2], need["family"], *need["entries"]) for need in needs])
 
     def test_128_entries(self):
         aces = [ace(f"e{at}", {"ipv6": {"dscp": at % 64, "ecn": at // 64}}) for at in range(128)]
@@ -248,7 +296,7 @@ class Remarks(ProgramCase):
         lists = [("from", 4, [ace("e", wider)]), ("to", 4, [ace("e", {"ipv4": {"source-ipv4-network": "192.0.2.0/24"}})])]
         self.note("of the other side", [[]], kinds_of(explained(octets_of(usage_file(lists)))["to"]))
         said = entries((tcp, "accept"), (https, "drop"))[1]["remarks"][0]
-        self.note("its words", "It never decides: from 1 before it matches all that it matches.", said["words"])
+        self.note("its words", "It never decides: from 1, which stands before it, matches all that it matches.", said["words"])
 
     def test_pointless_defaults(self):
         """An entry that leaves nothing of one IP version to the default for DNS."""
@@ -256,7 +304,7 @@ class Remarks(ProgramCase):
                                         ({MUD: {"controller": "urn:ietf:params:mud:ntp"}}, "drop", ["ntp"]), ({"tcp": {}}, "drop", [])):
             file = explained(octets_of(usage_file([("from", 6, [ace("e", matches, action)])])))
             said = [(entry["default"], each["words"]) for entry in file["defaults"]["from"] for each in entry["remarks"]]
-            words = "Of IPv6 it never decides: from 1 before it matches all that it matches."
+            words = "Of IPv6 it never decides: from 1, which stands before it, matches all that it matches."
             self.note(json.dumps(matches), [(rule, words) for rule in wanted], said)
 
     def test_wide(self):
@@ -271,9 +319,27 @@ class Remarks(ProgramCase):
                 ({"ipv4": {"ietf-acldns:dst-dnsname": "com"}}, ["top-level"]), ({"ipv4": {"ietf-acldns:dst-dnsname": "COM."}}, ["top-level"]),
                 ({"ipv4": {"ietf-acldns:dst-dnsname": "a.com"}}, []), ({MUD: {"manufacturer": "example"}}, ["top-level"]),
                 ({"ipv4": {"destination-ipv4-network": "1.2.3.4/0"}}, ["all-addresses", "any-address"]),
-                ({"ipv4": {"protocol": 17, "dscp": 3}, "tcp": {}}, ["any-address", "never"]),
-                ({"ipv4": {"protocol": 58}, "icmp": {}}, ["any-address", "never"])):
+                ({"ipv4": {"protocol": 17, "dscp": 3}, "tcp": {}}, ["never"]), ({"ipv4": {"protocol": 58}, "icmp": {}}, ["never"])):
             self.note(json.dumps(matches), wanted, kinds_of([only(matches)])[0])
+        said = only({MUD: {"manufacturer": "example"}})["remarks"][0]["words"]
+        self.note("one label", "The name example has one label, as a whole top-level domain has. It means this one name, and none below it.", said)
+
+    def test_wide_local_networks(self):
+        """The local networks without a port: where nothing else narrows the peer, and where there are ports."""
+        peer = {MUD: {"local-networks": None}}
+        for more, wanted in (
+                ({"ipv4": {"destination-ipv4-network": "10.1.1.1/32"}}, []), ({"ipv4": {"ietf-acldns:dst-dnsname": "c.example"}}, []),
+                ({MUD: {"local-networks": None, "controller": HUB}}, []), ({"ipv4": {"protocol": 1}}, []), ({"ipv4": {"protocol": 58}}, []),
+                ({"ipv4": {"protocol": 17}}, ["local-no-port"]), ({"ipv4": {"source-ipv4-network": "10.1.1.1/32"}}, ["local-no-port"]),
+                ({"ipv4": {"protocol": 17}, "tcp": {}}, ["never"])):
+            self.note(json.dumps(more), wanted, kinds_of([only({**peer, **more})])[0])
+        self.note("a drop", [], kinds_of([only(peer, "drop")])[0])
+
+    def test_wide_and_pointless(self):
+        """What never decides opens nothing, whatever made it so."""
+        for first in ("accept", "drop"):
+            for matches in ({"tcp": {}}, {MUD: {"local-networks": None}}):
+                self.note(f"{first}, then {json.dumps(matches)}", ["pointless"], kinds_of(entries(({}, first), (matches, "accept")))[1])
 
     def test_wider_than_a_drop(self):
         drop = {"ipv4": {"destination-ipv4-network": "192.0.2.0/25"}, "tcp": {"destination-port": {"port": 23}}}
@@ -283,6 +349,10 @@ class Remarks(ProgramCase):
                   entries((drop, "drop"), (wide, "accept"))[1]["remarks"][0]["words"])
         self.note("elsewhere", [], kinds_of(entries((drop, "drop"), ({**wide, "udp": {}}, "accept")))[1])
         self.note("behind an accept", [], kinds_of(entries((drop, "accept"), (wide, "accept")))[1])
+        tcp, http = {"tcp": {}}, {"tcp": {"destination-port": {"port": 80}}}
+        for first, wanted in (("accept", []), ("drop", ["around-drop"])):
+            kinds = kinds_of(entries((tcp, first), (http, "drop"), ({}, "accept")))
+            self.note(f"a drop that never decides, behind an {first}", (["pointless"], wanted + ["any-address"]), (kinds[1], kinds[2]))
 
     def test_unnamed_list(self):
         value = usage_file([])
@@ -318,7 +388,10 @@ class Changes(ProgramCase):
         status, out, _ = lines_of("examples/usage-files/made-lightbulb.json", "examples/usage-files/made-ttl-and-flags.json")
         self.note("two files", (0, texts.read("examples/explain/changes.txt")), (status, out))
         status, out, _ = lines_of("examples/usage-files/made-lightbulb.json", "examples/usage-files/made-list.json")
-        self.note("a refused one", (3, texts.read("examples/explain/made-list.txt")), (status, out))
+        wanted = texts.read("examples/explain/made-list.txt")
+        self.note("a refused one", (3, wanted.replace("refuses the file", "refuses the new file")), (status, out))
+        status, out, _ = lines_of("examples/usage-files/made-list.json", "examples/usage-files/made-empty.json")
+        self.note("both are refused", (3, wanted.replace("refuses the file", "refuses the old file")), (status, out))
 
     def test_head(self):
         old = self.put("old.json", octets_of(usage_file([])))
@@ -327,6 +400,27 @@ class Changes(ProgramCase):
         change = json.loads(lines_of(old, new, words=["--json"])[1])
         self.note("what it says of itself", ["url", "hours"], [each["member"] for each in change["head"]])
         self.note("what is to be bound", [HUB], [need["value"] for need in change["needs"]])
+        title = "What has to be bound, named or leased for it besides what the old file needs:\n"
+        said = "".join(lines_of(old, new)[1].rpartition(title)[1:])
+        self.note("its title", f'{title}- an IPv4 address has to be bound to the class "{HUB}" (from 1).\n', said)
+
+    def test_needs_besides(self):
+        """A need of another IP version or of another URL's own controller is one more."""
+        mine = {MUD: {"controller": HUB, "my-controller": None}}
+        old = self.put("old.json", octets_of(usage_file([("from", 4, [ace("a", mine)])])))
+        for url, wanted in ((URL, [("controller", HUB, "6"), ("my-controller", URL, "6")]),
+                            (URL + "1", [("controller", HUB, "6"), ("my-controller", URL + "1", "4"), ("my-controller", URL + "1", "6")])):
+            new = self.put("new.json", octets_of(usage_file([("from", 4, [ace("a", mine)]), ("from", 6, [ace("b", mine)])], url)))
+            needs = json.loads(lines_of(old, new, words=["--json"])[1])["needs"]
+            self.note(url, wanted, [(need["kind"], need["value"], need["family"]) for need in needs])
+
+    def test_about(self):
+        """What the maker tells of itself is compared too."""
+        old = self.put("old.json", octets_of(usage_file([], systeminfo="a lamp", **{"mfg-name": "A"})))
+        new = self.put("new.json", octets_of(usage_file([], systeminfo="a <lamp>", **{"firmware-rev": "2"})))
+        said = lines_of(old, new)[1].split("\n")[1:4]
+        self.note("its lines", ['systeminfo: it was "a lamp", and is "a \\u003clamp\\u003e".', 'mfg-name: it was "A", and is not there.',
+                                'firmware-rev: it was not there, and is "2".'], said)
 
 
 class Refusals(ProgramCase):
@@ -364,14 +458,49 @@ class Refusals(ProgramCase):
         is_there = line.startswith(step) or rule == "Missing" or (line.startswith("{") and step[1:-1].isdigit())
         self.holds(f"{rule}, its place", is_there, f"{step}: {line}")
 
+    def test_what_sentences_cover(self):
+        """Files that break a rule in another way than most do: its sentence covers them too."""
+        port, digits = {"tcp": {"source-port": {"port": 77777}}}, "A number stands in digits alone, up to 18,446,744,073,709,551,615"
+        for text in ("-1", "5.0", "5e0", "18446744073709551616"):
+            self.covered(f"port {text}", port, "WrongKind", digits, text)
+        self.covered("an empty list", {MUD: {"local-networks": []}}, "WrongKind", "an empty leaf is [null] or null.")
+        self.covered("no number at all", port, "Json", "The file can't be read as JSON,", "1e999")
+        self.covered("half a pair", port, "Json", "The file can't be read as JSON,", '"\\ud800"')
+        self.covered("an operator", {"tcp": {"source-port": {"operator": "eq", "lower-port": 1, "upper-port": 2}}}, "PortRange",
+                     "a range stands beside a single port or an operator.")
+        self.covered("a test of a drop", {"l3": {}}, "UnknownMatch", "Passing over it would match more than the entry says.")
+
+    def covered(self, what, matches, rule, sentence, text=""):
+        """An entry that drops, whose number 77777 is this text, is refused by this rule, in this sentence."""
+        octets = octets_of(usage_file([("from", 4, [ace("e", matches, "drop")])])).replace(b"77777", text.encode())
+        said = explained(octets)["refused"]
+        self.note(what, (rule, True), (said["rule"], sentence in said["words"]))
+
+    def test_digit_names(self):
+        """A member whose name is made of digits is no element of a list, and is shown escaped as any other."""
+        for name, shown in (("5", "5"), ("\u0665", "\\u0665"), ("\u00b2", "\\u00b2")):
+            octets = json.dumps(usage_file([("from", 4, [ace("e", {"tcp": {name: 1}})])]), indent=1, ensure_ascii=False).encode()
+            status, out, errors = lines_of(self.put("file.json", octets))
+            self.note(f"{shown}, status", (3, ""), (status, errors))
+            self.holds(shown, f'by its rule UnknownMatch: the member "{shown}" (' in out and f'"{shown}": 1' in out, out)
+
+    def test_missing_members(self):
+        """Of a missing member the object is shown in which it would stand, and not its name."""
+        text = octets_of(usage_file([("from", 4, [ace("e", {})])])).decode().replace('"actions": {"forwarding": "accept"}', '"actions":\n {}')
+        said = explained(text.encode())["refused"]
+        self.note("the rule", ("Missing", "/ietf-access-control-list:acls/acl/0/aces/ace/0/actions/forwarding"), (said["rule"], said["path"]))
+        self.note("its place", (2, 2), (said["line"], said["column"]))
+        said = explained(b" {}")["refused"]
+        self.note("in the whole", ("Missing", 1, 2), (said["rule"], said["line"], said["column"]))
+
     def test_whole_files(self):
         """What is wrong with a file as a whole."""
         deep = b"[" * 128 + b"]" * 128
         for what, octets, rule, said in (
                 ("too long", b" " * 262145, "TooLong", "The file has more than 262,144 octets."), ("empty", b"", "Json", "line 1, column 1."),
                 ("cut", b'{"a":\n [1, ', "Json", "line 2, column"), ("no UTF-8", b'{"a\xff": 1}', "Json", "From octet 3 on it is no UTF-8."),
-                ("deep", deep, "Json", "127 of its containers"), ("half a pair", b'"\\ud800"', "Json", "no JSON text"),
-                ("no number", b"[NaN]", "Json", "no JSON text"), ("a mark", b"\xef\xbb\xbf{}", "Json", "no JSON text"),
+                ("deep", deep, "Json", "127 of its containers"), ("half a pair", b'"\\ud800"', "Json", "can't be read as JSON"),
+                ("no number", b"[NaN]", "Json", "can't be read as JSON"), ("a mark", b"\xef\xbb\xbf{}", "Json", "can't be read as JSON"),
                 ("another kind", b" [] ", "WrongKind", "Line 1, column 2:")):
             status, out, _ = lines_of(self.put("file.json", octets))
             self.note(f"{what}, status", 3, status)

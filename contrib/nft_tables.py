@@ -15,6 +15,8 @@ UPKEEP = (
     "ether type ip ip daddr 255.255.255.255 udp sport 68 udp dport 67 accept",
     "ether type ip6 ip6 hoplimit 255 icmpv6 type { 133, 134, 135, 136, 137 } accept",
 )
+# no list speaks of frames with a VLAN tag, and what stands behind it isn't looked for
+TAGGED = "ether type { 8021q, 8021ad } counter drop"
 # the longest time of an element, in seconds: nft counts milliseconds in 32 bits
 LONGEST = 4_000_000
 # what asks the kernel who began a connection
@@ -180,8 +182,8 @@ class Table:
             yield "  }"
         for side in ("from", "to"):
             yield "  chain " + side + " {"
-            for upkeep in UPKEEP:
-                yield "    " + upkeep
+            for rule in (TAGGED, *UPKEEP):
+                yield "    " + rule
             for version, kind in (("4", "ip"), ("6", "ip6")):
                 yield "    ether type %s goto %s-v%s" % (kind, side, version)
             yield "  }"

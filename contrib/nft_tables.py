@@ -15,10 +15,14 @@ UPKEEP = (
     "ether type ip ip daddr 255.255.255.255 udp sport 68 udp dport 67 accept",
     "ether type ip6 ip6 hoplimit 255 icmpv6 type { 133, 134, 135, 136, 137 } accept",
 )
+# no list speaks of frames with a VLAN tag, and what stands behind it isn't looked for
+TAGGED = "ether type { 8021q, 8021ad } counter drop"
 # the longest time of an element, in seconds: nft counts milliseconds in 32 bits
 LONGEST = 4_000_000
 # what asks the kernel who began a connection
 ASKS = "ct direction "
+# lists by which all is dropped
+NOTHING = [{"name": f"{side}-v{version}", "aces": {"ace": []}} for side in ("from", "to") for version in "46"]
 LEASED = ("manufacturer", "same-manufacturer", "model")
 
 
@@ -91,12 +95,12 @@ def entries_of(octets):
 
 
 class Expiries:
-    """When the addresses of a Thing's entries end: each at the first of its name's and its lease's expiries."""
+    """When the addresses of a file's entries end: each at the first of its name's and its lease's expiries."""
 
-    def __init__(self, listings, octets):
+    def __init__(self, octets, leases, names):
+        """Of a usage file, the expiries of all leases by their addresses, and those of each name's addresses."""
         self.entries = entries_of(octets)
-        self.leases = {lease["address"]: lease["until"] for thing in listings["things"] for lease in thing["leases"]}
-        self.names = {row["name"]: {at["address"]: at["until"] for at in row["addresses"]} for row in listings["names"]}
+        self.leases, self.names = leases, names
 
     def is_timed(self, side, rule):
         """Whether the entry by which an item is called has addresses that end."""
@@ -180,8 +184,8 @@ class Table:
             yield "  }"
         for side in ("from", "to"):
             yield "  chain " + side + " {"
-            for upkeep in UPKEEP:
-                yield "    " + upkeep
+            for rule in (TAGGED, *UPKEEP):
+                yield "    " + rule
             for version, kind in (("4", "ip"), ("6", "ip6")):
                 yield "    ether type %s goto %s-v%s" % (kind, side, version)
             yield "  }"

@@ -30,12 +30,15 @@ import nft_tables  # noqa: E402
 THING, OTHER = "02:00:00:00:00:01", "02:00:00:00:00:02"
 CLOUD, GATEWAY = "02:00:00:00:00:fe", "02:00:00:00:00:fd"
 ADDRESS = {THING: "192.168.77.10", OTHER: "192.168.77.11", CLOUD: "192.168.77.20", GATEWAY: "192.168.77.1"}
+ADDRESS6 = {THING: "2001:db8::10", CLOUD: "2001:db8::20"}
 URL = {THING: "https://lighting.example.com/bulb", OTHER: "https://lighting.example.com/switch"}
 DNS = "urn:ietf:params:mud:dns"
 PROBE = "table bridge mud_probe {\n  chain asks {\n    ct direction original accept\n  }\n}\n"
 # how long a frame may take, in seconds, and how often a look is repeated in place of an hour of timers
 ARRIVES = 0.15
 LOOKS = 60
+# the seconds of a name and of a lease whose expiry is awaited: the rules have to be loaded before
+SHORT = 20
 
 
 def entry(name, matches, forwarding="accept"):
@@ -54,8 +57,11 @@ def usage_file(url, begun=None, dropped=False):
     taken = [entry("cloud", {"ipv4": {"ietf-acldns:src-dnsname": "cloud.example.com", "protocol": 6}, "tcp": {"source-port": port, **ask}}),
              entry("makers", {"ietf-mud:mud": {"same-manufacturer": [None]}, "udp": {}}),
              entry("locals", {"ietf-mud:mud": {"local-networks": [None]}, "tcp": {"source-port": {"lower-port": 1, "upper-port": 99}}})]
-    lists = [{"name": name, "type": "ipv4-acl-type", "aces": {"ace": aces}} for name, aces in (("fr", sent), ("to", taken))]
-    policy = {side: {"access-lists": {"access-list": [{"name": name}]}} for side, name in (("from-device-policy", "fr"), ("to-device-policy", "to"))}
+    sent6 = [entry("cloud", {"ipv6": {"ietf-acldns:dst-dnsname": "cloud.example.com"}, "tcp": {"destination-port": {"operator": "eq", "port": 8443}}})]
+    lists = [{"name": name, "type": f"ipv{version}-acl-type", "aces": {"ace": aces}}
+             for name, version, aces in (("fr6", 6, sent6), ("fr", 4, sent), ("to", 4, taken))]
+    policy = {side: {"access-lists": {"access-list": [{"name": name} for name in names]}}
+              for side, names in (("from-device-policy", ("fr6", "fr")), ("to-device-policy", ("to",)))}
     head = {"mud-version": 1, "mud-url": url, "last-update": "2024-01-01T00:00:00Z", "is-supported": True, **policy}
     return json.dumps({"ietf-mud:mud": head, "ietf-access-control-list:acls": {"acl": lists}}).encode()
 
@@ -83,6 +89,13 @@ def udp(source, target, ports, to=None):
     return frame(source, target, 17, struct.pack(">HHHH", *ports, 12, 0) + b"data", to)
 
 
+def tcp6(source, target, ports):
+    """A SYN by IPv6."""
+    ends = socket.inet_pton(socket.AF_INET6, ADDRESS6[source]) + socket.inet_pton(socket.AF_INET6, ADDRESS6[target])
+    head = struct.pack(">IHBB", 0x60000000, 20, 6, 64) + ends
+    return bytes.fromhex((target + source).replace(":", "")) + b"\x86\xdd" + head + struct.pack(">HHIIBBHHH", *ports, 1, 0, 0x50, 2, 65535, 0, 0)
+
+
 def ping(source, target):
     return frame(source, target, 1, b"\x08\0\0\0\0\1\0\1")
 
@@ -97,6 +110,11 @@ def frames():
             for ports in ((40000, 53), (53, 40000), (40000, 5000)):
                 yield f"{name}, UDP {ports}", udp(source, target, ports)
             yield name + ", ping", ping(source, target)
+    for ports in ((50000, 8443), (50000, 443)):
+        yield f"IPv6, {ports}", tcp6(THING, CLOUD, ports)
+        yield f"IPv6, back, {ports}", tcp6(CLOUD, THING, ports[::-1])
+    yield "through the gateway, allowed", tcp(THING, GATEWAY, (50000, 443), to=ADDRESS[CLOUD])
+    yield "through the gateway, denied", tcp(THING, GATEWAY, (50000, 443), to="198.51.100.7")
     yield "to a group", udp(THING, CLOUD, (5353, 5353), "224.0.0.251")
     yield "DHCP", udp(THING, GATEWAY, (68, 67), "255.255.255.255")
     yield "ARP", bytes.fromhex((CLOUD + THING).replace(":", "")) + b"\x08\x06" + bytes(46)
@@ -190,7 +208,8 @@ class Bridge(ProgramCase):
             self.post("/leases", {"mac": mac, "address": ADDRESS[mac], "seconds": 86400})
         self.post("/classes", {"class": DNS, "address": ADDRESS[GATEWAY]})
         self.post("/locals", {"prefixes": ["192.168.77.0/28"]}, "PUT")
-        self.post("/names", {"name": "cloud.example.com", "address": ADDRESS[CLOUD], "ttl": 86400})
+        for address in (ADDRESS[CLOUD], ADDRESS6[CLOUD]):
+            self.post("/names", {"name": "cloud.example.com", "address": address, "ttl": 86400})
 
     def post(self, path, body, method="POST"):
         answer = self.console.tell(method, path, body)
@@ -229,6 +248,9 @@ class Bridge(ProgramCase):
         self.note("without the gateway, what it takes", True, self.network.arrives(tcp(THING, GATEWAY, (50000, 8080))))
         self.note("with the gateway", (0, ""), self.load("--gateway"))
         self.compare("with the gateway")
+        for tag in (b"\x81\0\0\0", b"\x88\xa8\0\7"):
+            tagged = tcp(THING, CLOUD, (50000, 8080))
+            self.note("a frame with a tag", False, self.network.arrives(tagged[:12] + tag + tagged[12:]))
         # what the bridge only looks at, as for a capture, stays to be seen
         self.network.ip("link", "set", "br0", "promisc", "on")
         denied = tcp(THING, CLOUD, (50000, 8080))
@@ -239,8 +261,8 @@ class Bridge(ProgramCase):
     def test_holds_and_ends(self):
         for mac in (THING, OTHER):
             self.approve(usage_file(URL[mac]))
-        self.post("/names", {"name": "cloud.example.com", "address": "192.168.77.21", "ttl": 4})
-        ends = time.time() + 4
+        self.post("/names", {"name": "cloud.example.com", "address": "192.168.77.21", "ttl": SHORT})
+        ends = time.time() + SHORT
         short = tcp(THING, CLOUD, (50000, 443), to="192.168.77.21")
         self.note("the rules", (0, ""), self.load("--gateway"))
         self.note("a name, before its expiry", True, self.network.arrives(short))
@@ -250,8 +272,8 @@ class Bridge(ProgramCase):
         self.note("a look behind a hold", (0, ""), self.load("--gateway"))
         self.compare("a hold")
         self.post("/holds", {"mac": THING}, "DELETE")
-        self.post("/leases", {"mac": OTHER, "address": ADDRESS[OTHER], "seconds": 3})
-        ends = time.time() + 3
+        self.post("/leases", {"mac": OTHER, "address": ADDRESS[OTHER], "seconds": SHORT})
+        ends = time.time() + SHORT
         self.note("a look behind a release", (0, ""), self.load("--gateway"))
         self.compare("a release", lambda octets: b"data" in octets)
         time.sleep(max(0, ends - time.time()) + 0.2)
@@ -311,8 +333,8 @@ class Bridge(ProgramCase):
         self.note("without connections", (0, ""), self.load("--without-connections", "--gateway"))
         for name, one in frames():
             verdict, arrives = self.verdict(one), self.network.arrives(one)
-            # the port 44 is dropped, whoever began; 443 of the cloud is what only an entry that asks allows
-            less = one[6:12].hex(":") == THING and "TCP (50000, 443)" in name and verdict == "pass from=accept:1"
+            # the port 44 is dropped, whoever began; 443 of the cloud is what only the entry 2 allows, which asks
+            less = verdict == "pass from=accept:2"
             self.note(f"without connections, {name}: {verdict}", verdict.startswith("pass") and not less, arrives)
 
     def test_no_moment_without(self):
@@ -346,9 +368,9 @@ class Bridge(ProgramCase):
         for mac in (THING, OTHER):
             self.approve(usage_file(URL[mac], "from-device"))
         begun, answer = tcp(THING, CLOUD, (50000, 443)), tcp(CLOUD, THING, (443, 50000), 18)
-        self.note("a connection begins", "pass from=accept:1", self.post("/packets", begun)["verdict"])
+        self.note("a connection begins", "pass from=accept:2", self.post("/packets", begun)["verdict"])
         for look in range(LOOKS):
-            if look % 3 == 0:
+            if look % 6 == 0:
                 self.post("/names", {"name": f"n{look}.example.com", "address": ADDRESS[CLOUD], "ttl": 86400})
             self.note(f"look {look + 1}", (0, ""), self.load("--without-connections"))
         self.note("'serve' is the one that was started", None, self.server.process.poll())

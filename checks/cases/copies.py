@@ -20,7 +20,7 @@ import time
 
 from checks import program
 from checks.case import ProgramCase
-from checks.session import announcement
+from checks.session import announcement, frames
 
 sys.dont_write_bytecode = True
 sys.path.append(os.path.join(program.HERE, "contrib"))
@@ -441,6 +441,24 @@ class Files(CopyCase):
         with program.Server(9, self.store) as server:
             self.note("the copy", (0, "", ""), self.copied(server.port, self.copy))
         self.note("its items", report(self.store)["items"], report(self.copy)["items"])
+
+    def test_past_day(self):
+        """Of a store that was changed since, the copy judges a past packet at the packet's own second."""
+        now = int(time.time())
+        steps = [(9000, "/hear/dhcp", announcement("02:00:00:00:00:01", self.URL)), (9000, "/files", program.read(self.FILE)),
+                 (9000, "/verdicts", {"url": self.URL, "sha256": self.SHA256, "verdict": "waived"}),
+                 (5000, "/names", {"name": "test.example.com", "address": "198.51.100.7", "ttl": 60}),
+                 (0, "/names", {"name": "other.example.com", "address": "198.51.100.8", "ttl": 60})]
+        self.make(b"".join(program.request("POST", path, body if isinstance(body, bytes) else json.dumps(body), now - ago)
+                           for ago, path, body in steps))
+        kept_files.keep(program.read(self.FILE))
+        day = self.put("day.pcap", program.capture((now - ago, frames()["bulb-opens"]) for ago in (4999, 4940)))
+        dropped = "".join(f"{number} {now - ago} drop from=drop:no-match\n" for number, ago in ((1, 4999), (2, 4940)))
+        self.note("the store", dropped, program.run("judge", self.store, input=day).out.decode())
+        with program.Server(9, self.store) as server:
+            self.note("its copy", (0, "", ""), self.copied(server.port, self.copy))
+        wanted = f"1 {now - 4999} pass from=accept:1\n2 {now - 4940} drop from=drop:no-match\n"
+        self.note("the copy", wanted, program.run("judge", self.copy, input=day).out.decode())
 
     def test_backup(self):
         os.mkdir(self.path("backups"))

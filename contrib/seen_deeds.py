@@ -17,7 +17,7 @@ SILENCE = 7440
 PAUSE = 600
 SLOT = 900
 NIGHT = range(0, 6)
-DNS, NTP = 53, 123
+DNS, NTP, DHCP = 53, 123, 67
 FIN, SYN, RST, ACK = 1, 2, 4, 16
 # how many connections are remembered before those that are silent are forgotten
 ROOM = 1 << 18

@@ -15,7 +15,7 @@ LONGEST_TTL = 2147483647
 ETHERNET = 1
 CLASSIC = {b"\xd4\xc3\xb2\xa1": "<", b"\x4d\x3c\xb2\xa1": "<", b"\xa1\xb2\xc3\xd4": ">", b"\xa1\xb2\x3c\x4d": ">"}
 SECTION, INTERFACE, SIMPLE, ENHANCED, OBSOLETE = 0x0A0D0D0A, 1, 3, 6, 2
-MOST = 524288
+MOST, LATEST = 524288, 0xFFFFFFFF
 V4_HEAD = struct.Struct(">BxHxxHxBxx4s4s").unpack_from
 V6_HEAD = struct.Struct(">BxxxHBB16s16s").unpack_from
 PORTS = struct.Struct(">HH").unpack_from
@@ -112,7 +112,10 @@ def block(octets, order, kind, size, units):
     number, high, low, captured = struct.unpack(order + "4I", body[:16])
     if number >= len(units) or not units[number]:
         raise Unread("a packet of the capture isn't of Ethernet")
-    yield (high << 32 | low) // units[number], body[20:20 + captured]
+    seconds = (high << 32 | low) // units[number]
+    if captured > len(body) - 20 or seconds > LATEST:
+        raise Unread("a packet of the capture has more octets than its block, or comes too late")
+    yield seconds, body[20:20 + captured]
 
 
 def units_of(body, order):

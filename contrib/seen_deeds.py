@@ -71,13 +71,13 @@ def rank(port):
 
 class Reader:
     """What was seen of the Thing with a hardware address. `dns` and `ntp` are the addresses of the servers, in octets,
-    that the manager's default entries let it ask."""
+    that the manager's default entries let it ask. Of each address `names` has the first name and `latest` the last."""
 
     def __init__(self, mac, dns=(), ntp=()):
         self.mac = bytes.fromhex(mac.replace(":", ""))
         self.dns, self.ntp = frozenset(dns), frozenset(ntp)
         self.deeds, self.streams, self.datagrams, self.room = {}, {}, {}, ROOM
-        self.names, self.latest, self.resolvers = {}, {}, {}
+        self.names, self.latest, self.resolvers = {}, {}, set()
         self.now = self.first = None
         self.slots = set()
         self.counts = dict.fromkeys(("sent", "received", "link", "default", "fragment", "unreadable"), 0)
@@ -129,9 +129,9 @@ class Reader:
         if not HOST.fullmatch(name) or len(name) > 253:
             return
         for address, _ in found:
-            self.resolvers[packet.source] = self.resolvers.get(packet.source, 0) + 1
+            self.resolvers.add(packet.source)
             self.latest[address.packed] = name
-            self.names.setdefault(address.packed, []).append(name)
+            self.names.setdefault(address.packed, name)
 
     def deed_at(self, version, peer, *what):
         """The deed of what was seen with a peer under its present name."""

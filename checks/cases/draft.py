@@ -199,7 +199,8 @@ class Meanings(Drafts):
         self.note("strays", 5 + 2 + 1, fates.count("stray"))
         self.note("they are dropped", {"drop"}, {verdict.split()[0] for verdict, fate in zip(verdicts, fates) if fate == "stray"})
         self.holds("told", re.search("Of connections whose first SYN isn't in the capture.*: 8 packets", report), report)
-        self.holds("open", re.search(r"port 9000 of an address in 203.0.113.6/32, whoever began the connection\.\n.*Nobody was seen to begin it", report), report)
+        wanted = r"port 9000 of an address in 203.0.113.6/32, whoever began the connection\.\n.*Nobody was seen to begin it"
+        self.holds("open", re.search(wanted, report), report)
 
     def test_fragments(self):
         """Later fragments and frames that can't be read are counted."""
@@ -286,7 +287,8 @@ class Chance(Drafts):
             elif kind < 0.9:
                 scene.put(side, peer, 17, drafting.udp(own, port), fragment=pick.choice([0, 8]) if ":" not in peer else 0)
             else:
-                scene.name(pick.choice(["a.example.net", "b.example.net"]), pick.choice(peers[:2] + peers[4:5]), server=pick.choice(["192.168.1.1", "203.0.113.6"]))
+                name, server = pick.choice(["a.example.net", "b.example.net"]), pick.choice(["192.168.1.1", "203.0.113.6"])
+                scene.name(name, pick.choice(peers[:2] + peers[4:5]), server=server)
         words = ("--dns", "192.168.1.1", *pick.choice([(), ("--controller", "192.168.1.20"), ("--ntp", "192.168.1.21"), ("--with", "once", "--with", "night")]))
         _, fates, _ = self.looked_at(scene.octets(), *words)
         self.holds("kept, strays and what is left to the defaults", {"kept", "stray", "default"} <= set(fates), set(fates))

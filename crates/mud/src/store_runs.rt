@@ -6,14 +6,47 @@ ghost use Rattle.run_words.specs.Words.{command_in, words_of};
 ghost use Rattle.mud_cli.specs.Runs.{AsTold, Does, LeavesAlone, world};
 ghost use Rattle.keep_sqlite.specs.FromFile.{BeginsWithFile};
 ghost use Rattle.sqlite.specs.WalFiles.{image_at};
+ghost use Rattle.mud.specs.declared.store.StoreKeeper.TheVariants as store;
 
 use crate::store::StoreKeeper;
 use keep_sqlite::{FileKeeper, open_file};
 use mud_base::Listed;
 use mud_cli::mud_main;
 use mud_world::{Clock, Door, Keeper, MemoryKeeper, Spool};
-use sqlite::{File, FileFrom, FileStore, Start, Unknown};
+use sqlite::{Alter, File, FileFrom, FileStore, Start, Unknown};
 use std::alloc::Global;
+
+/// Runs these words over a file that was opened. It is one call over any store, since each call at the
+/// store of a file is proved at length.
+fn run_opened<S: Alter + Drop, D: Door, P: Spool, C: Clock>(
+    alloc: Global,
+    words: &[String],
+    keeper: FileKeeper<S>,
+    door: &mut D,
+    spool: &mut P,
+    clock: &mut C,
+) -> (u8, StoreKeeper<MemoryKeeper, FileKeeper<S>>)
+    ensures words { Is Unlisted result.0 ↔ (command_in (words_of words.now) ≡ None) }
+    ensures does { AsTold (Does ⟦<StoreKeeper<MemoryKeeper, FileKeeper<S>> as Keeper>⟧
+        ⟦<D as Door>⟧ ⟦<P as Spool>⟧ ⟦<C as Clock>⟧ (store.File keeper) result.1
+        (world door.old spool.old clock.old) (world door.new spool.new clock.new) result.0) (words_of words.now) }
+    ensures alone { AsTold (LeavesAlone (store.File keeper) result.1
+        (world door.old spool.old clock.old) (world door.new spool.new clock.new) result.0) (words_of words.now) }
+{
+    mud_main(alloc, words, StoreKeeper::File(keeper), door, spool, clock)
+}
+
+/// Runs these words over a store in memory alone, that is empty.
+fn run_in_memory<S: Alter + Drop, D: Door, P: Spool, C: Clock>(
+    alloc: Global,
+    words: &[String],
+    door: &mut D,
+    spool: &mut P,
+    clock: &mut C,
+) -> (u8, StoreKeeper<MemoryKeeper, FileKeeper<S>>) {
+    let keeper = StoreKeeper::Memory(MemoryKeeper::new(alloc, Listed::new(alloc)));
+    mud_main(alloc, words, keeper, door, spool, clock)
+}
 
 /// Runs these words over the file at a path, and answers the status and the keeper of the file. `S`
 /// stands for what the files at the path hold, whatever it is.
@@ -40,8 +73,8 @@ pub fn run_file<S: Start, D: Door, P: Spool, C: Clock>(
         × AsTold (LeavesAlone first result.1
         (world door.old spool.old clock.old) (world door.new spool.new clock.new) result.0) (words_of words.now)) }
 {
-    let keeper = StoreKeeper::File(open_file(rt, path, start));
-    mud_main(alloc, words, keeper, door, spool, clock)
+    let keeper = open_file(rt, path, start);
+    run_opened(alloc, words, keeper, door, spool, clock)
 }
 
 /// Runs these words over the file at the path, or where there is none over a store in memory alone,
@@ -57,9 +90,6 @@ pub fn run_store<D: Door, P: Spool, C: Clock>(
 ) -> (u8, StoreKeeper<MemoryKeeper, FileKeeper<FileStore<File>>>) {
     match path {
         Some(path) => run_file(alloc, rt, words, path, Unknown, door, spool, clock),
-        None => {
-            let keeper = StoreKeeper::Memory(MemoryKeeper::new(alloc, Listed::new(alloc)));
-            mud_main(alloc, words, keeper, door, spool, clock)
-        }
+        None => run_in_memory(alloc, words, door, spool, clock),
     }
 }

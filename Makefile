@@ -35,7 +35,6 @@ test:
 
 checks: build
 	checks/run -j "$$(nproc)" gate checks minutes
-	bash checks/made-network
 
 proofs:
 	@checks/print proofs

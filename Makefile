@@ -35,7 +35,6 @@ test:
 
 checks: build
 	checks/run -j "$$(nproc)" gate checks minutes
-	bash checks/made-network
 
 proofs:
 	@checks/print proofs
@@ -56,14 +55,14 @@ fuzz: build
 	fuzz/fuzz -m $(MINUTES)
 
 bench: build
-	bash bench/frames
-	bash bench/check
+	bench/frames
+	bench/check
 	bash bench/book-commands
-	bash bench/judge
-	bash bench/replay
+	bench/judge
+	bench/replay
 	bash bench/serve
 	python3 bench/row-changes
-	bash bench/kept-changes
+	bench/kept-changes
 
 hostile: build
 	bash bench/slowest-inputs

@@ -40,7 +40,7 @@ class Texts(Contrib):
 
     @needs("shellcheck")
     def test_shellcheck(self):
-        for path in texts.files("contrib/*", "packaging/*", "checks/*.sh", ".ci/run", "build", "mud", "man/make", "fuzz/*"):
+        for path in texts.files("contrib/*", "packaging/*", "checks/*.sh", ".ci/run", "build", "mud", "man/make", "fuzz/*", "bench/*"):
             if re.match("#!.*sh$", texts.lines(path)[0]):
                 self.note(f"shellcheck {path}", "", run(path, program="shellcheck").out.decode())
 

@@ -113,8 +113,9 @@ class Site:
 
     def open_site(self):
         """The logs' folder, the passwords, and nginx."""
-        os.mkdir(self.path("log"), 0o750)
+        os.mkdir(self.path("log"))
         shutil.chown(self.path("log"), "www-data", "adm")
+        os.chmod(self.path("log"), 0o2750)
         self.write("mud.users", "")
         os.chmod(self.path("mud.users"), 0o640)
         shutil.chown(self.path("mud.users"), None, "www-data")

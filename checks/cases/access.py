@@ -4,14 +4,21 @@ contrib/mud-console.nft lets the manager's users through and refuses a local use
 contrib/nginx-mud.conf opens by a password, does what the console has and refuses the rest with its own status; then
 the store is as it was, the console wasn't asked, and the log of refused requests has a line that names nobody.
 """
+import glob
+import grp
+import hashlib
+import json
 import os
+import pwd
+import shutil
 import subprocess
+import time
 import unittest
 
 from checks import program
 from checks.case import ProgramCase, needs
-from checks.program import read
-from checks.site import PORT, SITE, Site
+from checks.program import read, run
+from checks.site import PASSWORD, PORT, SITE, Site
 
 MAC = "02:00:00:00:00:01"
 MESSAGE = "examples/dhcp/dhclient-dnsmasq-01-discover.bin"
@@ -149,3 +156,156 @@ class Pages(OnSite):
         self.note("those that waited", [b'{"due":[]}'] * 16, [one.communicate(timeout=60)[0] for one in waiting])
         self.note("the log", [("429", "")], [(line["status"], line["user"]) for line in self.site.log("refused.log")])
         self.note("behind them", 200, self.site.asked("GET", "/api/due")[0])
+
+
+BULB = "https://lighting.example.com/lightbulb2000"
+FILE = "examples/usage-files/made-lightbulb.json"
+FRAME = "examples/lldp/lldpd-mud-01.bin"
+
+
+def long_body(octets):
+    """The longest body that a change may have: JSON, and spaces."""
+    return octets + b" " * (524288 - len(octets))
+
+
+def day():
+    """The changes of a made day: who made each, the request, and how contrib/changes says it."""
+    message, frame, file = read(MESSAGE), read(FRAME), read(FILE)
+    sha256 = {name: hashlib.sha256(octets).hexdigest() for name, octets in (("message", message), ("frame", frame), ("file", file))}
+    verdict = json.dumps({"url": BULB, "sha256": sha256["file"], "verdict": "waived"}).encode()
+    of_file = f"the file {sha256['file']} of {BULB}"
+    return [("dnsmasq", "POST", "/hear/dhcp", message, f"told a DHCP message of {MAC}, SHA-256 {sha256['message']}"),
+            ("dnsmasq", "POST", "/leases", f'{{"mac":"{MAC}","address":"192.0.2.10","seconds":86400}}'.encode(), f"leased 192.0.2.10 to {MAC} for 86400 seconds"),
+            ("anna", "POST", "/hear/lldp", frame, f"told an LLDP frame of {MAC}, SHA-256 {sha256['frame']}"),
+            ("anna", "POST", "/files", file, f"posted a file of {BULB}, SHA-256 {sha256['file']}"),
+            ("anna", "POST", "/verdicts", verdict, f"approved {of_file}, no signature being checked"),
+            ("anna", "POST", "/classes", b'{"class":"urn:ietf:params:mud:dns","address":"192.0.2.1"}', "bound 192.0.2.1 to urn:ietf:params:mud:dns"),
+            ("anna", "POST", "/classes", f'{{"my-controller-of":"{BULB}","address":"192.0.2.2"}}'.encode(), f"bound 192.0.2.2 to my-controller of {BULB}"),
+            ("anna", "DELETE", "/classes", b'{"class":"urn:ietf:params:mud:dns","address":"192.0.2.1"}', "unbound 192.0.2.1 from urn:ietf:params:mud:dns"),
+            ("anna", "PUT", "/locals", b'{"prefixes":["192.0.2.0/24"]}', 'set the local networks to ["192.0.2.0/24"]'),
+            ("anna", "POST", "/names", b'{"name":"test.example.com","address":"198.51.100.7","ttl":86400}', "named 198.51.100.7 test.example.com for 86400 seconds"),
+            ("anna", "POST", "/holds", HOLD, f"held {MAC}"), ("anna", "DELETE", "/holds", long_body(HOLD), f"released {MAC}"),
+            ("anna", "POST", "/revokes", f'{{"url":"{BULB}"}}'.encode(), f"revoked the approved file of {BULB}"),
+            ("dnsmasq", "DELETE", "/leases", b'{"address":"192.0.2.10"}', "ended the lease of 192.0.2.10"),
+            ("anna", "DELETE", "/things", HOLD, f"removed {MAC}")]
+
+
+class Log(OnSite):
+    def logged(self):
+        """What the log of changes has."""
+        return [(row["user"], row["method"], row["path"], row["body"].encode("latin-1"), row["status"]) for row in self.site.log("changes.log")]
+
+    def made_day(self):
+        """Makes the day's changes, and between two of them what changes nothing."""
+        for user, method, path, body, _ in day():
+            self.note(f"{method} {path}", 200, self.site.asked(method, "/api" + path, body, user=user)[0])
+            self.site.asked("GET", "/api/things")
+            self.site.asked("POST", "/api/packets", bytes(60))
+            self.site.asked("POST", "/api/verdicts", b'{"url":"https://nobody.example/x"}')
+            self.site.asked(method, "/api" + path, body, user=None)
+
+    def changes(self, *words):
+        """What contrib/changes says of the log: its days, and its lines without their times."""
+        ended = run(*words, self.site.path("log/changes.log"), program="contrib/changes")
+        self.note(f"changes {words}, status", (0, b""), (ended.status, ended.errors))
+        lines = ended.out.decode().splitlines()
+        return [line for line in lines if line[0] != " "], [line.split(" ", 3)[3] for line in lines if line[0] == " "]
+
+    def test_day(self):
+        """Each change is there with its user and its octets, and nothing else is; and it is said in words."""
+        self.opened()
+        self.made_day()
+        self.note("the log", [(*row[:4], "200") for row in day()], self.logged())
+        refused = self.site.log("refused.log")
+        self.note("what the console refused names who asked", {("400", "anna"), ("401", "")}, {(row["status"], row["user"]) for row in refused})
+        days, lines = self.changes()
+        self.note("in words", [f"{row[0]} {row[4]}" for row in day()], lines)
+        self.note("of today", [time.strftime("%Y-%m-%d")], days)
+        self.note("by day", ([], []), self.changes("--day", "2020-01-01"))
+        self.note("by user", [row[4] for row in day() if row[0] == "dnsmasq"], [line.split(" ", 1)[1] for line in self.changes("--user", "dnsmasq")[1]])
+        self.note("by Thing", [row[4] for row in day() if MAC in row[4]], [line.split(" ", 1)[1] for line in self.changes("--thing", MAC.upper())[1]])
+        self.note("by file", [row[4] for row in day() if BULB in row[4]], [line.split(" ", 1)[1] for line in self.changes("--file", BULB)[1]])
+
+    def test_gone(self):
+        """A client that goes away before it is answered: its change is in the log. So is one that no answer came of."""
+        self.opened()
+        self.site.asked("POST", "/api/hear/dhcp", read(MESSAGE))
+        silent = subprocess.Popen(self.site.within(["python3", "-c", SILENT]), stdin=subprocess.PIPE, stdout=subprocess.PIPE)
+        silent.stdout.readline()
+        self.note("the client has gone", 0, self.site.asked("POST", "/api/holds", HOLD, "--max-time", "0.3")[0])
+        silent.communicate()
+        self.holds("its change is in the log", program.until(lambda: len(self.logged()) == 2))
+        self.note("as it was", [("anna", "POST", "/holds", HOLD, "200")], self.logged()[1:])
+        self.note("and in the store", True, self.site.told("/things")["things"][0]["held"])
+        self.site.end(self.console)
+        self.note("without a console", 502, self.site.asked("DELETE", "/api/holds", HOLD)[0])
+        self.note("perhaps", [f"anna perhaps released {MAC} (no answer but 502)"], self.changes()[1][2:])
+
+    def test_words(self):
+        """What acts on a terminal isn't written to it; lines of others are told, and the older log is read first."""
+        row = {"time": "2026-12-02T10:00:00+00:00", "user": "anna", "from": "", "method": "POST", "path": "/names", "status": "200"}
+        body = {"name": "a\u001b[2J", "address": "192.0.2.1", "ttl": 4294967295}
+        older = self.put("older", json.dumps({**row, "body": json.dumps(body)}).encode() + b"\n{}\nno line\n")
+        run("-k", older, program="gzip")
+        newer = self.put("newer", json.dumps({**row, "time": "2026-12-03T10:00:00+00:00", "path": "/later", "body": "x"}).encode() + b"\n")
+        ended = run(older + ".gz", newer, self.path("none"), program="contrib/changes")
+        sha256 = hashlib.sha256(b"x").hexdigest()
+        said = f"2026-12-02\n  10:00:00+00:00 anna named 192.0.2.1 a\\x1b[2J for ever\n2026-12-03\n  10:00:00+00:00 anna POST /later, body of SHA-256 {sha256}\n"
+        self.note("said", (1, said), (ended.status, ended.out.decode()))
+        self.note("faults", 3, len(ended.errors.decode().splitlines()))
+        self.note("wrong words", 2, run("--week", program="contrib/changes").status)
+
+    @needs("logrotate")
+    def test_rotation(self):
+        """The log of each day stays by itself, its group reads it, others don't, and nothing is lost between two."""
+        self.opened()
+        text = read("contrib/mud.logrotate").decode().replace("/var/log/mud", self.site.path("log")).replace("/run/nginx.pid", self.site.path("nginx.pid"))
+        config = self.put("logrotate", text.replace("dateext\n", "dateext\n\tdateformat -%s\n").encode())
+        os.chmod(config, 0o644)
+        for number in range(3):
+            self.site.asked("PUT", "/api/locals", b'{"prefixes":[]}', user="anna")
+            ended = self.site.run("logrotate", "--force", "--state", self.path("state"), config)
+            self.note(f"logrotate {number}", (0, b""), (ended.status, ended.errors))
+            program.until(lambda: os.path.exists(self.site.path("log/changes.log")))
+            time.sleep(1.1)
+        self.site.asked("PUT", "/api/locals", b'{"prefixes":["192.0.2.0/24"]}', user="anna")
+        older = sorted(glob.glob(self.site.path("log/changes.log-*")))
+        self.note("the older ones", [True, True, False], [path.endswith(".gz") for path in older])
+        ended = run(*older, self.site.path("log/changes.log"), program="contrib/changes")
+        self.note("all four changes", 4, ended.out.count(b"anna set the local networks"))
+        for path in [*older[1:], self.site.path("log/changes.log")]:
+            about = os.stat(path)
+            self.note(f"{path}, who reads it", (0o640, "www-data", "adm"), (about.st_mode & 0o777, *owners(about)))
+        self.note("a stranger", 1, self.site.run("cat", self.site.path("log/changes.log"), user="nobody").status)
+
+
+def owners(about):
+    return pwd.getpwuid(about.st_uid).pw_name, grp.getgrgid(about.st_gid).gr_name
+
+
+class Scripts(OnSite):
+    def told(self, *words, **variables):
+        """Runs a script of contrib/ as a user of the machine who may not connect himself."""
+        given = [f"{name}={value}" for name, value in variables.items()]
+        place = [f"MUD_CONSOLE=http://127.0.0.1:{SITE}/api", f"MUD_FILES={self.path('files')}", *given]
+        return self.site.run("env", *place, *words, user="games")
+
+    def test_scripts(self):
+        """Each goes by the site with the user of its password file, and says so where it has none."""
+        self.opened()
+        login = self.put("login", f"machine 127.0.0.1 login dnsmasq password {PASSWORD['dnsmasq'].replace(' ', '')}\n".encode())
+        run("-i", "-B", self.site.path("mud.users"), "dnsmasq", program="htpasswd", input=PASSWORD["dnsmasq"].replace(" ", "").encode())
+        os.chmod(login, 0o600)
+        shutil.chown(login, "games")
+        os.mkdir(self.path("files"))
+        shutil.chown(self.path("files"), "games")
+        self.note("announce without a password", 1, self.told("contrib/announce", MAC, BULB).status)
+        self.note("put without a password", (1, f"put: {FILE}: the console refused /files: 401 the site wants a name and a password (MUD_LOGIN)\n"),
+                  (lambda ended: (ended.status, ended.errors.decode()))(self.told("contrib/put", FILE)))
+        self.note("announce", 0, self.told("contrib/announce", MAC, BULB, MUD_LOGIN=login).status)
+        self.note("put", 0, self.told("contrib/put", FILE, MUD_LOGIN=login).status)
+        self.told("contrib/dnsmasq-script", "add", MAC, "192.0.2.77", MUD_LOGIN=login, DNSMASQ_TIME_REMAINING=600)
+        self.told("contrib/dnsmasq-script", "del", MAC, "192.0.2.77", MUD_LOGIN=login)
+        wanted = [("POST", "/hear/dhcp"), ("POST", "/files"), ("POST", "/leases"), ("DELETE", "/leases")]
+        self.note("the log", [("dnsmasq", *row, "200") for row in wanted], [(row["user"], row["method"], row["path"], row["status"]) for row in self.site.log("changes.log")])
+        self.note("no such password file", 1, self.told("contrib/put", FILE, MUD_LOGIN=self.path("none")).status)

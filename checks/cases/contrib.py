@@ -50,6 +50,8 @@ class Texts(Contrib):
                                   ("mud-listen@.service", "mud-listen@br0.service", os.path.abspath("contrib/listen")),
                                   ("mud-rules.service", "mud-rules.service", os.path.abspath("contrib/nft-rules"))):
             text = re.sub("^ExecStart=[^ \n]*", f"ExecStart={words}", texts.read("contrib/" + name), flags=re.M)
+            # what loads rules needn't be there
+            text = re.sub(r"^(Exec\w+=\+)/usr/sbin/nft", rf"\1{words}", text, flags=re.M)
             path = self.put(unit, text.encode())
             ended = self.status(f"verify {unit}", 0, "systemd-analyze", "verify", "--man=no", path)
             self.note(f"verify {unit}, words", b"", ended.out + ended.errors)

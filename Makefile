@@ -86,7 +86,7 @@ install: $(program)
 	  mode=644; if [ -x "$$file" ]; then mode=755; fi; \
 	  install -m $$mode "$$file" "$(share)" || exit 1; \
 	done
-	sed -i 's|/usr/local/|$(PREFIX)/|' "$(share)"/mud*.service "$(share)/nginx-mud.conf" "$(share)/mud-console.nft"
+	sed -i 's|/usr/local/|$(PREFIX)/|' "$(share)"/mud*.service "$(share)/nginx-mud.conf" "$(share)/mud-console.nft" "$(share)/mud.bash-completion"
 
 uninstall:
 	rm -f "$(bin)/mud" "$(man)/mud.1"

@@ -33,6 +33,7 @@ class Site:
     def __init__(self, folder):
         self.folder = folder
         self.started = []
+        self.scheme = "http"
 
     def path(self, name):
         return os.path.join(self.folder, name)
@@ -111,8 +112,8 @@ class Site:
         self.write("nginx-mud.conf", text)
         return self.write("nginx.conf", MAIN.format(self.folder))
 
-    def open_site(self):
-        """The logs' folder, the passwords, and nginx."""
+    def open_site(self, **changed):
+        """The logs' folder, the passwords, and nginx, with what an operator changed."""
         os.mkdir(self.path("log"))
         shutil.chown(self.path("log"), "www-data", "adm")
         os.chmod(self.path("log"), 0o2750)
@@ -121,7 +122,7 @@ class Site:
         shutil.chown(self.path("mud.users"), None, "www-data")
         for name, word in PASSWORD.items():
             run("-i", "-B", self.path("mud.users"), name, program="htpasswd", input=word.encode())
-        self.nginx = self.start(*self.within(["nginx", "-c", self.configure()]))
+        self.nginx = self.start(*self.within(["nginx", "-c", self.configure(**changed)]))
         if not program.until(lambda: self.listens(SITE)):
             raise AssertionError("no nginx: " + self.end(self.nginx))
 
@@ -131,7 +132,7 @@ class Site:
         said += ["-H", "Mud-Change: yes"] if change else []
         said += ["--data-binary", "@-"] if body is not None else []
         ended = self.run("curl", "-s", "--max-time", "60", "-X", method, "-w", "\n%{http_code}", *said, *words,
-                         f"http://127.0.0.1:{SITE}{path}", user=local, input=body or b"")
+                         f"{self.scheme}://127.0.0.1:{SITE}{path}", user=local, input=body or b"")
         text, _, status = ended.out.rpartition(b"\n")
         return int(status), text.decode("utf-8", "replace")
 

@@ -45,11 +45,11 @@ class OnSite(ProgramCase):
         self.site = site
         self.addCleanup(site.__exit__)
 
-    def opened(self):
-        """The rules, the console, and the site."""
+    def opened(self, **changed):
+        """The rules, the console, and the site with what an operator changed."""
         self.note("the rules are loaded", (0, b""), self.site.load_rules()[:3:2])
         self.console = self.site.serve()
-        self.site.open_site()
+        self.site.open_site(**changed)
 
 
 class Rules(OnSite):
@@ -94,6 +94,29 @@ class Pages(OnSite):
             ended = self.site.run("nginx", "-t", "-c", path)
             self.note(f"nginx -t of '{listen}'", wanted, ended.status)
             self.note(f"its certificate is asked for with '{listen}'", bool(wanted), b"ssl_certificate" in ended.errors)
+
+    def certificate(self, name):
+        """A certificate of this name, and its key."""
+        words = ["-nodes", "-days", "2", "-subj", "/CN=" + name, "-addext", "subjectAltName=IP:127.0.0.1", "-keyout", self.path(name + ".key"), "-out", self.path(name)]
+        run("req", "-x509", "-newkey", "rsa:2048", *words, program="openssl")
+        os.chmod(self.path(name + ".key"), 0o644)
+        return self.path(name)
+
+    @needs("openssl")
+    def test_certificates(self):
+        """With certificates of clients in place of passwords: who has none, or a stranger's, is refused, and the log
+        names the one of the certificate."""
+        site, anna, stranger = (self.certificate(name) for name in ("site", "anna", "stranger"))
+        listen = f"listen 127.0.0.1:{SITE} ssl; ssl_certificate {site}; ssl_certificate_key {site}.key;"
+        self.opened(**{f"listen 127.0.0.1:{SITE};": listen, 'auth_basic "MUD manager";': f"ssl_client_certificate {anna}; ssl_verify_client on;", "auth_basic_user_file": "#"})
+        self.site.scheme = "https"
+        self.site.asked("POST", "/api/hear/dhcp", read(MESSAGE), "--cacert", site, "--cert", anna, "--key", anna + ".key", user=None)
+        for name, wanted in ((None, 400), (stranger, 400), (anna, 200)):
+            said = ["--cert", name, "--key", name + ".key"] if name else []
+            self.note(f"by {name}", wanted, self.site.asked("POST", "/api/holds", HOLD, "--cacert", site, *said, user=None)[0])
+        self.note("with a password instead", 400, self.site.asked("POST", "/api/holds", HOLD, "--cacert", site)[0])
+        self.note("the log of changes", [("CN=anna", "/hear/dhcp"), ("CN=anna", "/holds")], [(row["user"], row["path"]) for row in self.site.log("changes.log")])
+        self.note("the log of refused requests", {("400", "")}, {(row["status"], row["user"]) for row in self.site.log("refused.log")})
 
     def test_does(self):
         """With a password each route does what the console does, and the answer is the console's."""

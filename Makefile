@@ -82,7 +82,7 @@ install: $(program)
 	  mode=644; if [ -x "$$file" ]; then mode=755; fi; \
 	  install -m $$mode "$$file" "$(share)" || exit 1; \
 	done
-	sed -i 's|/usr/local/|$(PREFIX)/|' "$(share)/mud.service" "$(share)/mud-listen@.service" "$(share)/mud-rules.service"
+	sed -i 's|/usr/local/|$(PREFIX)/|' "$(share)"/mud*.service "$(share)/nginx-mud.conf" "$(share)/mud-console.nft" "$(share)/mud.bash-completion"
 
 uninstall:
 	rm -f "$(bin)/mud" "$(man)/mud.1"

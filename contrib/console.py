@@ -1,11 +1,14 @@
 """The manager's console, for the programs that stand beside this file.
 
-It is at MUD_CONSOLE or else at http://127.0.0.1:8080. One connection serves many requests. Where it can't be
+It is at MUD_CONSOLE or else at http://127.0.0.1:8080. Where that is a site with passwords (nginx-mud.conf), MUD_LOGIN
+is the path of a file in the form of .netrc, with the name and the password for its host. One connection serves many requests. Where it can't be
 made or ends in the midst, as while 'serve' is started anew, it is tried again for a minute. What goes wrong is
 a Fault, whose text is in words.
 """
+import base64
 import http.client
 import json
+import netrc
 import os
 import sys
 import time
@@ -24,6 +27,8 @@ MEANINGS = {
     "route": "no manager answers there, or an earlier one",
     "long": "it is too long",
 }
+# what a site says where it doesn't hand a request on; 429 and 502 are tried again
+SITE = {401: "the site wants a name and a password (MUD_LOGIN)", 403: "the site refuses it", 404: "the site has no such path"}
 
 
 class Fault(Exception):
@@ -41,12 +46,26 @@ def words_of(status, text):
     except ValueError:
         answer = None
     if not isinstance(answer, dict):
-        return f"{status} {text[:200]}"
+        return f"{status} {SITE.get(status, text[:200])}"
     parts = [str(answer[member]) for member in ("book", "rule", "member", "path") if answer.get(member)]
     if isinstance(answer.get("url"), dict):
         parts.append(str(answer["url"].get("rule")))
     meaning = MEANINGS.get(answer.get("rule"))
     return f"{status} {' '.join(parts)}" + (f": {meaning}" if meaning else "")
+
+
+def login(host):
+    """The header lines for a site with passwords."""
+    lines, path = {"Mud-Change": "yes"}, os.environ.get("MUD_LOGIN")
+    if path:
+        try:
+            name, _, password = netrc.netrc(path).authenticators(host) or (None, None, None)
+        except (OSError, netrc.NetrcParseError) as failure:
+            raise Fault(f"MUD_LOGIN can't be read: {failure}") from failure
+        if name is None:
+            raise Fault(f"MUD_LOGIN has no machine {host}: {path}")
+        lines["Authorization"] = "Basic " + base64.b64encode(f"{name}:{password}".encode()).decode()
+    return lines
 
 
 class Console:
@@ -73,9 +92,11 @@ class Console:
         """Makes the connection."""
         try:
             at = urllib.parse.urlsplit(self.place)
-            connection = http.client.HTTPConnection(at.hostname or "127.0.0.1", at.port or 80, timeout=ANSWER)
+            host = at.hostname or "127.0.0.1"
+            connection = http.client.HTTPConnection(host, at.port or 80, timeout=ANSWER)
         except ValueError as failure:
             raise Fault(f"MUD_CONSOLE is no place of a console: {self.place}") from failure
+        self.above, self.lines = at.path.rstrip("/"), login(host)
         connection.connect()
         # once it has ended, a request doesn't make another one
         connection.auto_open = 0
@@ -87,9 +108,12 @@ class Console:
         if not self.connection:
             self.connect()
         try:
-            self.connection.request(method, path, body or None)
+            self.connection.request(method, self.above + path, body or None, self.lines)
             answer = self.connection.getresponse()
-            return answer.status, answer.read().decode()
+            text = answer.read().decode()
+            if answer.status in (429, 502):
+                raise TimeoutError
+            return answer.status, text
         except (OSError, http.client.HTTPException):
             self.close()
             raise

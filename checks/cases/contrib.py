@@ -48,15 +48,19 @@ class Texts(Contrib):
     def test_units(self):
         for name, unit, words in (("mud.service", "mud.service", PROGRAM),
                                   ("mud-listen@.service", "mud-listen@br0.service", os.path.abspath("contrib/listen")),
-                                  ("mud-rules.service", "mud-rules.service", os.path.abspath("contrib/nft-rules"))):
+                                  ("mud-rules.service", "mud-rules.service", os.path.abspath("contrib/nft-rules")),
+                                  ("mud-metrics.service", "mud-metrics.service", os.path.abspath("contrib/metrics"))):
             text = re.sub("^ExecStart=[^ \n]*", f"ExecStart={words}", texts.read("contrib/" + name), flags=re.M)
+            # what loads rules needn't be there
+            text = re.sub(r"^(Exec\w+=\+)/usr/sbin/nft", rf"\1{words}", text, flags=re.M)
             path = self.put(unit, text.encode())
             ended = self.status(f"verify {unit}", 0, "systemd-analyze", "verify", "--man=no", path)
             self.note(f"verify {unit}, words", b"", ended.out + ended.errors)
             # the threshold is ten times the figure
             self.status(f"security {unit}", 0, "systemd-analyze", "security", "--offline=true", "--threshold=40", path)
-        timer = self.put("mud-rules.timer", read("contrib/mud-rules.timer"))
-        self.note("verify mud-rules.timer", (0, b""), run("verify", "--man=no", timer, program="systemd-analyze")[::2])
+        for name in ("mud-rules.timer", "mud-metrics.timer"):
+            timer = self.put(name, read("contrib/" + name))
+            self.note(f"verify {name}", (0, b""), run("verify", "--man=no", timer, program="systemd-analyze")[::2])
 
 
 class WithoutConsole(Contrib):

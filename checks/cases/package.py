@@ -4,6 +4,7 @@ import os
 import re
 import shutil
 import subprocess
+import unittest
 
 from checks import program, texts
 from checks.case import Case, ProgramCase, needs
@@ -11,7 +12,41 @@ from checks.program import read, run
 
 MESSAGE = "examples/dhcp/dhclient-dnsmasq-01-discover.bin"
 COPIED = "Makefile VERSION CHANGELOG.md docs man contrib examples packaging".split()
-UNITS = ["mud-listen@.service", "mud-rules.service", "mud-rules.timer", "mud.service"]
+MOVED = {"mud.bash-completion": "usr/share/bash-completion/completions/mud", "mud.logrotate": "etc/logrotate.d/mud", "mud.sysusers": "usr/lib/sysusers.d/mud.conf"}
+UNITS = ["mud-listen@.service", "mud-metrics.service", "mud-metrics.timer", "mud-rules.service", "mud-rules.timer", "mud.service"]
+
+
+# in a root of its own over the machine's: a package of before, the store as a dynamic user leaves it, and then this
+# package, twice, the one of before, and this one
+UPGRADES = """
+mount -t tmpfs none "$1" && mkdir "$1/upper" "$1/work" "$1/root" || exit 99
+mount -t overlay overlay -o "lowerdir=/,upperdir=$1/upper,workdir=$1/work" "$1/root" || exit 99
+cp "$2" "$1/root/older.deb"
+cp "$3" "$1/root/newer.deb"
+rm -rf "$1/root/run/systemd/system" "$1/root/var/log/mud" "$1/root/var/lib/mud" "$1/root/var/lib/private/mud"
+mount --bind /dev "$1/root/dev"
+chroot "$1/root" sh -eu -c '
+  installed() { dpkg --no-triggers --force-depends --force-downgrade --force-unsafe-io -i "$1" >/dev/null; }
+  private() {
+    if [ -d /var/lib/mud ]; then mv /var/lib/mud /var/lib/private/mud; fi
+    chown -R 61234:61234 /var/lib/private/mud
+    ln -s private/mud /var/lib/mud
+  }
+  look() {
+    stat -c "%U %G %F %n" /var/lib/mud /var/lib/mud/mud.db
+    cat /var/lib/mud/mud.db
+    [ -e /var/lib/private/mud ] || echo link gone
+  }
+  installed /older.deb
+  mkdir -p /var/lib/private/mud
+  echo kept >/var/lib/private/mud/mud.db
+  private
+  for package in newer newer older newer; do
+    installed /$package.deb
+    if [ $package = older ]; then private; else look; fi
+  done
+  stat -c "%U %G %a" /var/log/mud'
+"""
 
 
 class Texts(Case):
@@ -72,7 +107,7 @@ class Package(ProgramCase):
         wanted += [(f"{share}/{name}", mode) for name, mode in of_contrib()] + of_examples(share)
         self.note("files", sorted(wanted), files_below(self.path("installed")))
         units = "".join(read(f"{share}/{unit}", self.path("installed")).decode() for unit in UNITS)
-        self.note("the units' programs", ["/usr/share/mud/listen %i", "/usr/share/mud/nft-rules --load", "/usr/bin/mud serve /var/lib/mud/mud.db 8080 1000000"],
+        self.note("the units' programs", ["/usr/share/mud/listen %i", "/usr/share/mud/metrics /var/lib/prometheus/node-exporter/mud.prom", "/usr/share/mud/nft-rules --load", "/usr/bin/mud serve /var/lib/mud/mud.db ${PORT} 1000000"],
                   re.findall("^ExecStart=(.*)", units, re.M))
         self.make("copy", "uninstall", "PREFIX=/usr", folder)
         self.note("what 'make uninstall' leaves", [], files_below(self.path("installed")))
@@ -87,8 +122,9 @@ class Package(ProgramCase):
         names = ("CHANGELOG.md", "CLAIMS.md", "GUIDE.md", "README.md", "REFERENCE.md", "changelog.gz", "copyright")
         wanted = [("usr/bin/mud", "755"), ("usr/share/man/man1/mud.1.gz", "644")] + [(f"{pages}/{name}", "644") for name in names]
         wanted += [(f"lib/systemd/system/{unit}", "644") for unit in UNITS] + of_examples(pages)
-        wanted += [(f"{share}/{name}", mode) for name, mode in of_contrib() if name not in [*UNITS, "README.md"]]
-        wanted += [(f"DEBIAN/{name}", mode) for name, mode in (("control", "644"), ("md5sums", "644"), ("postinst", "755"), ("postrm", "755"), ("prerm", "755"))]
+        wanted += [(f"{share}/{name}", mode) for name, mode in of_contrib() if name not in [*UNITS, *MOVED, "README.md"]]
+        wanted += [(path, "644") for path in MOVED.values()]
+        wanted += [(f"DEBIAN/{name}", mode) for name, mode in (("conffiles", "644"), ("control", "644"), ("md5sums", "644"), ("postinst", "755"), ("postrm", "755"), ("prerm", "755"))]
         self.note("files", sorted(wanted), files_below(self.path("unpacked")))
         unpacked = self.path("unpacked/usr/bin/mud")
         self.note("the program", run("hear", "dhcp", input=MESSAGE), run("hear", "dhcp", input=MESSAGE, program=unpacked))
@@ -111,6 +147,34 @@ class Package(ProgramCase):
             return
         ended = run("--allow-root", "--fail-on", "error,warning", package, program="lintian")
         self.note("lintian, errors and warnings", (0, ""), (ended.status, ended.out.decode()))
+
+    def older(self, package):
+        """A package of before, with no users and no scripts, of the files of this one."""
+        older = self.path("older")
+        run("-R", package, older, program="dpkg-deb")
+        for name in ("postinst", "prerm", "postrm", "conffiles"):
+            os.unlink(f"{older}/DEBIAN/{name}")
+        shutil.rmtree(f"{older}/etc")
+        control = read("DEBIAN/control", older).decode()
+        with open(f"{older}/DEBIAN/control", "w", encoding="utf-8") as file:
+            file.write(re.sub("^Version: .*", "Version: 0.9", control, flags=re.M))
+        run("-b", older, self.path("older.deb"), program="dpkg-deb")
+        return self.path("older.deb")
+
+    @needs("dpkg-deb", "dpkg", "strip", "systemd-sysusers", "unshare")
+    @unittest.skipIf(os.geteuid() != 0, "only root installs a package")
+    def test_upgrade(self):
+        """Where no systemd runs a store behind a link goes to the manager's user at each upgrade, whole, and where it
+        was done nothing is; an earlier package takes it over."""
+        self.copied("copy")
+        package = self.path("copy/" + self.make("copy", "deb").split()[-1])
+        os.mkdir(self.path("root"))
+        ended = run("--mount", "sh", "-eu", "-c", UPGRADES, "sh", self.path("root"), self.older(package), package, program="unshare")
+        if ended.status == 99:
+            self.left_out("upgrades", "no overlay can be mounted")
+            return
+        moved = "mud mud directory /var/lib/mud\nmud mud regular file /var/lib/mud/mud.db\nkept\nlink gone\n"
+        self.note("upgrade, again, downgrade, upgrade", (0, moved * 3 + "www-data adm 2750\n"), (ended.status, ended.out.decode()))
 
     @needs("dpkg-deb", "strip")
     def test_two_folders(self):

@@ -189,6 +189,19 @@ class Meanings(Drafts):
         self.holds("the times", re.search("of early.*\n    Seen 2 times", report) and re.search("of later.*\n    Seen once", report), report)
         self.holds("the server", "names are those of the DNS answers of 192.168.1.1." in report, report)
 
+    def test_peers(self):
+        """Each address of local peers and of a name is told, and what others began is marked."""
+        scene = Scene().connect("192.168.1.66", 80, is_sent=False).connect("192.168.1.7", 80, is_sent=False, own=50001)
+        scene.put(False, "192.168.1.66", 1, b"\x08\0\0\0").put(True, "192.168.1.66", 1, b"\0\0\0\0").put(True, "192.168.1.66", 1, b"\3\3\0\0")
+        scene.name("a.example.net", "203.0.113.5").connect("203.0.113.5", 443).put(True, "192.168.1.8", 1, b"\x08\0\0\0")
+        report = self.looked_at(scene.octets(), "--dns", "192.168.1.1")[0]
+        others, answers = " Others began it: see that you know them.", " It answers what others sent: see that you know them."
+        for what, peers, mark in (("its own port 80", "192.168.1.7, 192.168.1.66", others), ("receive ICMP of type 8", "192.168.1.66", others),
+                                  ("send ICMP of type 0", "192.168.1.66", answers), ("send ICMP of type 3", "192.168.1.66", answers),
+                                  ("send ICMP of type 8", "192.168.1.8", ""), ("port 443", "203.0.113.5", "")):
+            said = re.search(rf"(?m)^.*{what} .*\n.*? With ([^ ].*?)\.( Others.*| It answers.*|)$", report)
+            self.note(what, (peers, mark), said and said.groups())
+
     def test_connections(self):
         """What no SYN began, what comes behind a reset or a long silence, and what has no SYN at all."""
         scene = Scene().connect("203.0.113.5", 443, own=50001).connect("203.0.113.5", 443, own=50002, begins=False)

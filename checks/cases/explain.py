@@ -191,6 +191,17 @@ class Sentences(ProgramCase):
             file = explained(octets_of(usage_file([("from", 4, [ace("e", matches, forwarding)])])))
             self.note(json.dumps(matches), wanted, file["rest"]["from"])
 
+    def test_rest_of_connections(self):
+        """An entry by which the sender can't begin, for who begins or for its port, lets nothing of the examples through."""
+        web = "HTTP to port 80, HTTPS to port 443"
+        for side, other in (("from", "to"), ("to", "from")):
+            for tests, wanted in (({"source-port": {"port": 22}}, f", also ping, {web} and SSH to port 22."),
+                                  ({"ietf-mud:direction-initiated": f"{other}-device"}, f", also ping, {web} and SSH to port 22."),
+                                  ({"ietf-mud:direction-initiated": f"{side}-device"}, ", also ping."),
+                                  ({"source-port": {"operator": "gte", "port": 49152}}, ", also ping.")):
+                rest = explained(octets_of(usage_file([(side, 4, [ace("e", {"tcp": tests})])])))["rest"][side]
+                self.note(f"{side} {json.dumps(tests)}", wanted, rest.partition("dropped")[2])
+
     def test_rest_of_several(self):
         """What is dropped behind entries that speak of any address, and behind one that never decides."""
         tcp, hub = {"tcp": {"destination-port": {"operator": "neq", "port": 7}}}, {MUD: {"controller": HUB}}

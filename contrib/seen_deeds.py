@@ -71,7 +71,8 @@ def rank(port):
 
 class Reader:
     """What was seen of the Thing with a hardware address. `dns` and `ntp` are the addresses of the servers, in octets,
-    that the manager's default entries let it ask. Of each address `names` has the first name and `latest` the last."""
+    that the manager's default entries let it ask, and `servers` those of a port that it used. Of each address `names` has
+    the first name and `latest` the last."""
 
     def __init__(self, mac, dns=(), ntp=()):
         self.mac = bytes.fromhex(mac.replace(":", ""))
@@ -79,7 +80,7 @@ class Reader:
         self.deeds, self.streams, self.datagrams, self.room = {}, {}, {}, ROOM
         self.names, self.latest, self.resolvers = {}, {}, set()
         self.now = self.first = None
-        self.slots = set()
+        self.slots, self.servers = set(), {DNS: set(), NTP: set()}
         self.counts = dict.fromkeys(("sent", "received", "link", "default", "fragment", "unreadable"), 0)
 
     def take(self, seconds, frame):
@@ -118,7 +119,10 @@ class Reader:
         if packet.layer != "udp":
             return False
         peer, port = (packet.destination, packet.pair[1]) if is_sent else (packet.source, packet.pair[0])
-        return (port == DNS and peer in self.dns) or (port == NTP and peer in self.ntp)
+        is_so = (port == DNS and peer in self.dns) or (port == NTP and peer in self.ntp)
+        if is_so:
+            self.servers[port].add(peer)
+        return is_so
 
     def hear_names(self, packet):
         """Takes the names of an answer of a DNS server to the Thing."""

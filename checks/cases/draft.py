@@ -202,6 +202,14 @@ class Meanings(Drafts):
             said = re.search(rf"(?m)^.*{what} .*\n.*? With ([^ ].*?)\.( Others.*| It answers.*|)$", report)
             self.note(what, (peers, mark), said and said.groups())
 
+    def test_servers(self):
+        """The servers of the defaults that were used are told; of the file it isn't said that a maker supports the Thing."""
+        octets = Scene().name("a.example.net", "203.0.113.5").connect("203.0.113.5", 443).octets()
+        report = self.looked_at(octets, "--dns", "192.168.1.1", "--dns", "192.168.1.2", "--ntp", "192.168.1.1")[0]
+        self.holds("servers", "by the defaults: for DNS 192.168.1.1; for NTP none." in report, report)
+        head = explaining.explained(drafted(octets)[1])["head"]
+        self.note("support", [False, True], [any(text in line for line in head) for text in ("still supports", "no maker says")])
+
     def test_connections(self):
         """What no SYN began, what comes behind a reset or a long silence, and what has no SYN at all."""
         scene = Scene().connect("203.0.113.5", 443, own=50001).connect("203.0.113.5", 443, own=50002, begins=False)

@@ -28,14 +28,14 @@ HOST = re.compile(rf"{LABEL}(?:\.{LABEL})*")
 class Deed:
     """How often and when something was seen. Of what was seen with several addresses `peers` is these, each with whether
     it answered, and `unbegun` how many segments stand beside it that no SYN began. Of what was seen with one, `found`
-    is with what others it stands in the file, and `server` who was seen to answer a SYN."""
+    is with what others it stands in the file, and `server` who was seen to answer a SYN. `refused` says that it was reset."""
 
-    __slots__ = ("packets", "times", "first", "last", "slots", "slot", "answered", "peers", "unbegun", "found", "server")
+    __slots__ = ("packets", "times", "first", "last", "slots", "slot", "answered", "peers", "unbegun", "found", "server", "refused")
 
     def __init__(self, now):
         self.packets, self.times, self.first, self.last = 0, 0, now, now
         self.slots, self.slot, self.answered, self.peers, self.unbegun = set(), None, False, {}, 0
-        self.found = self.server = None
+        self.found, self.server, self.refused = None, None, False
 
     def sight(self, now):
         """A packet of it."""
@@ -53,6 +53,7 @@ class Deed:
         self.first, self.last = min(self.first, other.first), max(self.last, other.last)
         self.slots |= other.slots
         self.answered |= other.answered
+        self.refused |= other.refused
         self.peers[peer] = self.peers.get(peer, False) or other.answered
 
     def days(self):
@@ -188,8 +189,9 @@ class Reader:
             return self.stray(version, ends, is_sent, flags)
         deed, began, _, _ = stream
         stream[2], stream[3] = self.now, True
-        if is_sent == (began == TO) and not flags & RST:
-            deed.answered = True
+        if is_sent == (began == TO):
+            deed.answered |= not flags & RST
+            deed.refused |= bool(flags & RST)
         if flags & RST:
             del self.streams[ends]
         return deed

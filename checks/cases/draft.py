@@ -210,6 +210,15 @@ class Meanings(Drafts):
         head = explaining.explained(drafted(octets)[1])["head"]
         self.note("support", [False, True], [any(text in line for line in head) for text in ("still supports", "no maker says")])
 
+    def test_refused(self):
+        """What is reset is told from what isn't answered; what others send to groups isn't read, and that is said."""
+        scene = Scene().connect("203.0.113.5", 81, answers=False).put(True, "203.0.113.5", 6, drafting.tcp(50001, 82, 2))
+        report = self.looked_at(scene.connect("203.0.113.5", 443).octets())[0]
+        for port, said in ((81, " It was refused"), (82, " No answer was seen"), (443, "")):
+            line = re.search(rf"(?m)^.*port {port} .*\n(.*)$", report)[1]
+            self.note(str(port), said, "".join(text for text in (" It was refused", " No answer was seen") if text in line))
+        self.holds("groups", "What others send to groups or to all isn't read" in report, report)
+
     def test_connections(self):
         """What no SYN began, what comes behind a reset or a long silence, and what has no SYN at all."""
         scene = Scene().connect("203.0.113.5", 443, own=50001).connect("203.0.113.5", 443, own=50002, begins=False)

@@ -219,6 +219,16 @@ class Meanings(Drafts):
             self.note(str(port), said, "".join(text for text in (" It was refused", " No answer was seen") if text in line))
         self.holds("groups", "What others send to groups or to all isn't read" in report, report)
 
+    def test_remarks(self):
+        """A broadcast, a renewal of a lease, and segments behind a reset have words of their own."""
+        scene = Scene().put(True, "192.168.1.255", 1, b"\x08\0\0\0", far="ff:ff:ff:ff:ff:ff").put(True, "224.0.0.22", 2, bytes(8), far="01:00:5e:00:00:16")
+        scene.put(True, "192.168.1.1", 17, drafting.udp(68, 67)).connect("203.0.113.5", 443, end=4)
+        report = self.looked_at(scene.octets())[0]
+        for what, said in (("192.168.1.255/32", "It was sent as a broadcast."), ("port 67", "It renews or releases a lease;"),
+                           ("port 443", "or behind their reset or two hours of silence, 1 packet, which")):
+            self.holds(what, re.search(rf"(?m)^.*{what}.*\n.* {said}", report), report)
+        self.note("one broadcast", 1, report.count("broadcast"))
+
     def test_connections(self):
         """What no SYN began, what comes behind a reset or a long silence, and what has no SYN at all."""
         scene = Scene().connect("203.0.113.5", 443, own=50001).connect("203.0.113.5", 443, own=50002, begins=False)

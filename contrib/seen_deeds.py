@@ -28,14 +28,14 @@ HOST = re.compile(rf"{LABEL}(?:\.{LABEL})*")
 class Deed:
     """How often and when something was seen. Of what was seen with several addresses `peers` is these, each with whether
     it answered, and `unbegun` how many segments stand beside it that no SYN began. Of what was seen with one, `found`
-    is with what others it stands in the file, and `server` who was seen to answer a SYN."""
+    is with what others it stands in the file, and `server` who was seen to answer a SYN. `refused` says that it was reset."""
 
-    __slots__ = ("packets", "times", "first", "last", "slots", "slot", "answered", "peers", "unbegun", "found", "server")
+    __slots__ = ("packets", "times", "first", "last", "slots", "slot", "answered", "peers", "unbegun", "found", "server", "refused")
 
     def __init__(self, now):
         self.packets, self.times, self.first, self.last = 0, 0, now, now
         self.slots, self.slot, self.answered, self.peers, self.unbegun = set(), None, False, {}, 0
-        self.found = self.server = None
+        self.found, self.server, self.refused = None, None, False
 
     def sight(self, now):
         """A packet of it."""
@@ -53,6 +53,7 @@ class Deed:
         self.first, self.last = min(self.first, other.first), max(self.last, other.last)
         self.slots |= other.slots
         self.answered |= other.answered
+        self.refused |= other.refused
         self.peers[peer] = self.peers.get(peer, False) or other.answered
 
     def days(self):
@@ -71,7 +72,8 @@ def rank(port):
 
 class Reader:
     """What was seen of the Thing with a hardware address. `dns` and `ntp` are the addresses of the servers, in octets,
-    that the manager's default entries let it ask. Of each address `names` has the first name and `latest` the last."""
+    that the manager's default entries let it ask, and `servers` those of a port that it used. Of each address `names` has
+    the first name and `latest` the last."""
 
     def __init__(self, mac, dns=(), ntp=()):
         self.mac = bytes.fromhex(mac.replace(":", ""))
@@ -79,7 +81,7 @@ class Reader:
         self.deeds, self.streams, self.datagrams, self.room = {}, {}, {}, ROOM
         self.names, self.latest, self.resolvers = {}, {}, set()
         self.now = self.first = None
-        self.slots = set()
+        self.slots, self.servers = set(), {DNS: set(), NTP: set()}
         self.counts = dict.fromkeys(("sent", "received", "link", "default", "fragment", "unreadable"), 0)
 
     def take(self, seconds, frame):
@@ -118,7 +120,10 @@ class Reader:
         if packet.layer != "udp":
             return False
         peer, port = (packet.destination, packet.pair[1]) if is_sent else (packet.source, packet.pair[0])
-        return (port == DNS and peer in self.dns) or (port == NTP and peer in self.ntp)
+        is_so = (port == DNS and peer in self.dns) or (port == NTP and peer in self.ntp)
+        if is_so:
+            self.servers[port].add(peer)
+        return is_so
 
     def hear_names(self, packet):
         """Takes the names of an answer of a DNS server to the Thing."""
@@ -184,8 +189,9 @@ class Reader:
             return self.stray(version, ends, is_sent, flags)
         deed, began, _, _ = stream
         stream[2], stream[3] = self.now, True
-        if is_sent == (began == TO) and not flags & RST:
-            deed.answered = True
+        if is_sent == (began == TO):
+            deed.answered |= not flags & RST
+            deed.refused |= bool(flags & RST)
         if flags & RST:
             del self.streams[ends]
         return deed

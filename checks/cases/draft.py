@@ -202,6 +202,33 @@ class Meanings(Drafts):
             said = re.search(rf"(?m)^.*{what} .*\n.*? With ([^ ].*?)\.( Others.*| It answers.*|)$", report)
             self.note(what, (peers, mark), said and said.groups())
 
+    def test_servers(self):
+        """The servers of the defaults that were used are told; of the file it isn't said that a maker supports the Thing."""
+        octets = Scene().name("a.example.net", "203.0.113.5").connect("203.0.113.5", 443).octets()
+        report = self.looked_at(octets, "--dns", "192.168.1.1", "--dns", "192.168.1.2", "--ntp", "192.168.1.1")[0]
+        self.holds("servers", "by the defaults: for DNS 192.168.1.1; for NTP none." in report, report)
+        head = explaining.explained(drafted(octets)[1])["head"]
+        self.note("support", [False, True], [any(text in line for line in head) for text in ("still supports", "no maker says")])
+
+    def test_refused(self):
+        """What is reset is told from what isn't answered; what others send to groups isn't read, and that is said."""
+        scene = Scene().connect("203.0.113.5", 81, answers=False).put(True, "203.0.113.5", 6, drafting.tcp(50001, 82, 2))
+        report = self.looked_at(scene.connect("203.0.113.5", 443).octets())[0]
+        for port, said in ((81, " It was refused"), (82, " No answer was seen"), (443, "")):
+            line = re.search(rf"(?m)^.*port {port} .*\n(.*)$", report)[1]
+            self.note(str(port), said, "".join(text for text in (" It was refused", " No answer was seen") if text in line))
+        self.holds("groups", "What others send to groups or to all isn't read" in report, report)
+
+    def test_remarks(self):
+        """A broadcast, a renewal of a lease, and segments behind a reset have words of their own."""
+        scene = Scene().put(True, "192.168.1.255", 1, b"\x08\0\0\0", far="ff:ff:ff:ff:ff:ff").put(True, "224.0.0.22", 2, bytes(8), far="01:00:5e:00:00:16")
+        scene.put(True, "192.168.1.1", 17, drafting.udp(68, 67)).connect("203.0.113.5", 443, end=4)
+        report = self.looked_at(scene.octets())[0]
+        for what, said in (("192.168.1.255/32", "It was sent as a broadcast."), ("port 67", "It renews or releases a lease;"),
+                           ("port 443", "or behind their reset or two hours of silence, 1 packet, which")):
+            self.holds(what, re.search(rf"(?m)^.*{what}.*\n.* {said}", report), report)
+        self.note("one broadcast", 1, report.count("broadcast"))
+
     def test_connections(self):
         """What no SYN began, what comes behind a reset or a long silence, and what has no SYN at all."""
         scene = Scene().connect("203.0.113.5", 443, own=50001).connect("203.0.113.5", 443, own=50002, begins=False)

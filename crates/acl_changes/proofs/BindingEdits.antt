@@ -1,7 +1,9 @@
 -- The edits of bindings that go and come.
-use Rattle.std.proofs.Common.{◌≡◌, ℕ, suc, ◌+◌, ◌<◌, Bool, true, false, List, [], ◌∷◌, map, length, drop, get_or, Result, refl, sym, ap, subst, ◌∙◌, arith}
+use Rattle.std.proofs.Common.{◌≡◌, ℕ, suc, ◌+◌, ◌≤◌, ◌<◌, min, Bool, true, false, List, [], ◌∷◌, ◌++◌, map, length, take, drop, get_or, Result, refl, sym, ap, subst, ◌∙◌, arith}
 use Rattle.std.proofs.Math.Seq.{drop-cons}
-use Rattle.std.proofs.lemmas.List.{length-map}
+use Rattle.std.specs.Prelude.{sum_by}
+use Rattle.std.proofs.lemmas.List.{length-map, drop_all, take-append-drop}
+use Rattle.std.proofs.lemmas.List.Sums.{sum_by-append, sum_by-cons}
 use Rattle.base_rows.specs.Sortable.{set_row, set_rows, SortKeysAscend}
 use Rattle.base_rows.proofs.SortableLaws.{ascend-set_row, ascend-set_rows}
 use Rattle.base_rows.proofs.RowLaws.{all-set_row, length-set_rows_le}
@@ -11,8 +13,9 @@ use Rattle.acl_model.specs.Changes.{without_bindings, replaced}
 use Rattle.base_rows.specs.declared.edit.Edit.{Edit}
 use Rattle.base_rows.specs.Edits.{edit, edit_sort_key, edit_made, edited}
 use Rattle.base_rows.proofs.EditLaws.{edited-set_row}
-use Rattle.acl_buckets.specs.BindingBuckets.{index_by_key, AreFoundByKey}
+use Rattle.acl_buckets.specs.BindingBuckets.{index_by_key, bindings_of_key, AreFoundByKey}
 use Rattle.acl_changes.specs.Bindings.{binding_edit, AreEditsOf}
+use Rattle.acl_changes.specs.Steps.{least_look, least_looks}
 
 module _ (bindings : List Binding) (up : SortKeysAscend binding_sort_key bindings) where
   abbrev Edits : Type 0
@@ -69,3 +72,29 @@ pub one_planned : (bindings : List Binding) (comes : Bool) (b copy : Binding) (f
     → set_row (edit_sort_key binding_sort_key) (edit copy comes found) es ≡ set_row (edit_sort_key binding_sort_key) (binding_edit bindings comes b) es
 unfolding binding_edit
 one_planned bindings comes b copy found es same is = (λ j. set_row (edit_sort_key binding_sort_key) (edit (same j) comes (is j)) es)
+
+-- ---- How often bindings are looked for
+
+pub next_look : (bindings bs : List Binding) (i : ℕ) (b : Binding) → i < length bs → b ≡ get_or bs i b → least_looks bindings (drop i bs) ≡ least_look bindings b + least_looks bindings (drop (i + 1) bs)
+unfolding least_looks
+next_look bindings bs i b lt is =
+    ap (sum_by (least_look bindings)) (drop-cons bs i b lt ∙ (λ j. sym is j ∷ drop (next j) bs))
+    ∙ sum_by-cons (least_look bindings) b (drop (i + 1) bs)
+  where
+    next : suc i ≡ i + 1
+    next = omega arith
+
+pub one_look : (bindings : List Binding) (b : Binding) (s s' : ℕ) → s + min 1 (length (bindings_of_key b.key bindings)) ≤ s' → s + least_look bindings b ≤ s'
+unfolding least_look
+one_look bindings b s s' least = least
+
+pub no_look : (bindings bs : List Binding) (i : ℕ) → length bs ≤ i → least_looks bindings (drop i bs) ≡ 0
+unfolding least_looks
+no_look bindings bs i past = ap (sum_by (least_look bindings)) (drop_all i bs past)
+
+-- those of both halves
+pub looks_of_halves : (bindings : List Binding) (n : ℕ) (all front behind : List Binding) (s s' s'' : ℕ) → front ≡ take n all → behind ≡ drop n all → s + least_looks bindings front ≤ s' → s' + least_looks bindings behind ≤ s'' → s + least_looks bindings all ≤ s''
+unfolding least_looks
+looks_of_halves bindings n all front behind s s' s'' a b first second =
+    let both = ap (sum_by (least_look bindings)) (sym (take-append-drop n all) ∙ (λ i. sym a i ++ sym b i)) ∙ sum_by-append (least_look bindings) front behind in
+    omega (arith, both, first, second)

@@ -2,6 +2,7 @@
 use Rattle.std.specs.Prelude.{◌≡◌, ℕ, ◌+◌, ◌*◌, ◌≤◌, min, List, length, sum_by, Option, Some, None}
 use Rattle.mud_base.specs.declared.packet.Direction.{Direction}
 use Rattle.acl_model.specs.declared.binding.MemberKey.{MemberKey}
+use Rattle.acl_model.specs.declared.binding.Binding.{Binding}
 use Rattle.acl_model.specs.declared.entry.Entry.{Entry}
 use Rattle.acl_model.specs.FirstMatch.{entries_of}
 use Rattle.acl_model.specs.Policies.{UrlPolicy}
@@ -10,6 +11,7 @@ use Rattle.acl_rows.specs.declared.row.Row.{Row}
 use Rattle.acl_rows.specs.declared.row.RowKey.{RowKey}
 use Rattle.acl_rows.specs.Rows.{Slots, Holder, member_keys, entry_at}
 use Rattle.acl_rows.specs.ByAddress.{rows_of_peer}
+use Rattle.acl_buckets.specs.BindingBuckets.{bindings_of_key}
 use Rattle.acl_changes.specs.Policies.{AllHeld}
 
 -- the steps of a key, and none where there is none
@@ -50,3 +52,11 @@ least_step rows key = min 1 (length (rows_of_peer key.owner key.side key.addr ro
 -- the same of these sort keys, together
 unfoldable pub least_steps : List Row → List RowKey → ℕ
 least_steps rows keys = sum_by (least_step rows) keys
+
+-- the least number of steps in which a binding is looked for among those of its key: none where there are none
+unfoldable pub least_look : List Binding → Binding → ℕ
+least_look bindings b = min 1 (length (bindings_of_key b.key bindings))
+
+-- the same of these, together
+unfoldable pub least_looks : List Binding → List Binding → ℕ
+least_looks bindings bs = sum_by (least_look bindings) bs

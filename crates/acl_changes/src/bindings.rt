@@ -5,6 +5,7 @@ ghost use Rattle.acl_model.specs.SortKeys.{binding_sort_key};
 ghost use Rattle.acl_model.specs.Changes.{replaced};
 ghost use Rattle.base_rows.specs.Edits.{edit_sort_key};
 ghost use Rattle.acl_changes.specs.Bindings.{binding_edit, AreEditsOf};
+ghost use Rattle.acl_changes.specs.Steps.{least_looks};
 
 use acl_buckets::BindingBuckets;
 use acl_model::Binding;
@@ -29,6 +30,7 @@ fn plan_each<L: Ledger>(
 ) -> Result<(), Memory>
     ensures ok { OnOk result (edits.new.rows
         ≡ set_rows (edit_sort_key binding_sort_key) (map (binding_edit bindings.now.rows comes) changed.now) edits.old.rows) }
+    ensures looked { OnOk result (steps.old + least_looks bindings.now.rows changed.now ≤ steps.new) }
     ensures least { steps.old ≤ steps.new }
     ensures most { (b : ℕ) → length bindings.now.rows < 2 ^ b → steps.new ≤ steps.old + length changed.now * b }
 {
@@ -50,6 +52,7 @@ fn plan_bindings<L: Ledger>(
     steps: &mut Steps<L>,
 ) -> Result<SortedRows<Edit<Binding>>, Memory>
     ensures ok { IfOk result (λ edits. edits.rows ≡ set_rows (edit_sort_key binding_sort_key) (map (binding_edit bindings.now.rows comes) changed.now) []) }
+    ensures looked { OnOk result (steps.old + least_looks bindings.now.rows changed.now ≤ steps.new) }
     ensures least { steps.old ≤ steps.new }
     ensures most { (b : ℕ) → length bindings.now.rows < 2 ^ b → steps.new ≤ steps.old + length changed.now * b }
 {
@@ -65,7 +68,8 @@ fn plan_bindings<L: Ledger>(
     Ok(edits)
 }
 
-/// The edits by which these bindings go, and those come.
+/// The edits by which these bindings go, and those come. Each is looked for among the bindings of
+/// its key.
 pub fn edits_of<L: Ledger>(
     alloc: Global,
     bindings: &BindingBuckets,
@@ -74,6 +78,7 @@ pub fn edits_of<L: Ledger>(
     steps: &mut Steps<L>,
 ) -> Result<SortedRows<Edit<Binding>>, Memory>
     ensures ok { IfOk result (λ edits. AreEditsOf gone.now come.now bindings.now.rows edits.rows) }
+    ensures looked { OnOk result (steps.old + least_looks bindings.now.rows gone.now + least_looks bindings.now.rows come.now ≤ steps.new) }
     ensures least { steps.old ≤ steps.new }
     ensures most { (b : ℕ) → length bindings.now.rows < 2 ^ b → steps.new ≤ steps.old + (length gone.now + length come.now) * b }
 {

@@ -2,10 +2,10 @@
 ghost use Rattle.std.specs.Prelude.{◌≡◌, ℕ, ◌+◌, ◌*◌, ◌^◌, ◌<◌, ◌≤◌, length, min, OnOk, Some, slice_get, IfOk, ◌++◌, ◌∷◌, [], is_some, true};
 ghost use Rattle.std.specs.Option.{option_map};
 ghost use Rattle.std.specs.List.{filter_map};
-ghost use Rattle.base_rows.specs.Sortable.{row_at, set_row};
+ghost use Rattle.base_rows.specs.Sortable.{row_at, set_row, rows_under};
 ghost use Rattle.mud_url.specs.Url.{host_of};
 ghost use Rattle.acl_model.specs.Keys.{key_of};
-ghost use Rattle.acl_model.specs.SortKeys.{binding_sort_key, member_sort_key};
+ghost use Rattle.acl_model.specs.SortKeys.{binding_sort_key, member_sort_key, text_sort_key};
 ghost use Rattle.acl_model.specs.Changes.{for_ever, until_of, replaced};
 ghost use Rattle.acl_model.specs.FirstMatch.{entries_of};
 ghost use Rattle.acl_model.specs.Policies.{url_policy};
@@ -44,6 +44,7 @@ fn kept_expiry<L: Ledger>(
     steps: &mut Steps<L>,
 ) -> Option<End>
     ensures value { result ≡ option_map until_of (row_at binding_sort_key (sort_key_of_text key.entry.now.key.kind key.entry.now.key.text.now key.entry.now.addr) bindings.now.rows) }
+    ensures looked { steps.old + min 1 (length (rows_under binding_sort_key (text_sort_key key.entry.now.key.kind key.entry.now.key.text.now) bindings.now.rows)) ≤ steps.new }
     ensures least { steps.old ≤ steps.new }
     ensures most { (b : ℕ) → length bindings.now.rows < 2 ^ b → steps.new ≤ steps.old + b }
 {

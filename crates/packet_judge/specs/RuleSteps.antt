@@ -1,6 +1,6 @@
 -- The steps of a ruling: the rows of the peer that are read, the search for them, and the wide entries that are tested.
 use Rattle.std.specs.Prelude.{ℕ, ◌+◌, ◌^◌, ◌<◌, Bool, if◌then◌else◌, List, [], ◌∷◌, filter, length, Option, Some, None}
-use Rattle.std.specs.Option.{option_map_or}
+use Rattle.std.specs.Option.{option_map_or, option_and_then}
 use Rattle.mud_base.specs.declared.addr.Addr.{Addr}
 use Rattle.mud_base.specs.declared.packet.Direction.{Direction}
 use Rattle.acl_model.specs.FirstMatch.{entries_of}
@@ -9,7 +9,7 @@ use Rattle.acl_rows.specs.declared.row.Owner.TheVariants.{Default}
 use Rattle.acl_rows.specs.declared.row.Row.{Row}
 use Rattle.acl_rows.specs.Rows.{Slots, Holder, default_held}
 use Rattle.acl_rows.specs.View.{Part, View, wide_from, rows_of_side, is_at, holder_from}
-use Rattle.packet_judge.specs.ByRows.{Asked, passes_at, peer_rows}
+use Rattle.packet_judge.specs.ByRows.{Asked, passes_at, peer_rows, first_in}
 
 -- the rows of the peer that the file has
 unfoldable pub file_rows : Asked → Option Part → ℕ
@@ -31,6 +31,19 @@ wide_tested asked part = tested (passes_at asked part) part.wide
 unfoldable pub file_tested : Asked → Option Part → ℕ
 file_tested asked None = 0
 file_tested asked (Some part) = wide_tested asked part
+
+-- the rows of the peer that a part has, and its wide entries that are tested
+unfoldable pub part_least : Asked → Part → ℕ
+part_least asked part = length (peer_rows asked part) + wide_tested asked part
+
+-- those of the defaults, where the file gives no number of an entry
+unfoldable pub least_behind : Asked → Part → Option ℕ → ℕ
+least_behind asked defaults None = part_least asked defaults
+least_behind asked defaults (Some n) = 0
+
+-- those of the defaults, where no entry of the file rules
+unfoldable pub default_least : Asked → View → ℕ
+default_least asked view = least_behind asked view.defaults (option_and_then (first_in asked) view.file)
 
 -- those of one part, where the search takes no more than `b`
 unfoldable pub part_steps : Asked → ℕ → Part → ℕ

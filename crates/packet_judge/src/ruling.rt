@@ -34,7 +34,7 @@ fn entry_ruling(part: &RulePart<'_>, n: u16) -> Ruling
 }
 
 /// The ruling of the default entries.
-#[tactic(auto, unfolding(crate::specs::ByRows::default_at))]
+#[tactic(auto, unfolding(crate::specs::ByRows::default_at, crate::specs::RuleSteps::part_least))]
 fn default_ruling<L: Ledger>(
     question: &Question<'_>,
     part: &RulePart<'_>,
@@ -42,7 +42,7 @@ fn default_ruling<L: Ledger>(
     steps: &mut Steps<L>,
 ) -> Ruling
     ensures value { result ≡ by.default_at why (by.first_in question.now part.now) }
-    ensures least { steps.old ≤ steps.new }
+    ensures least { steps.old + count.part_least question.now part.now ≤ steps.new }
     ensures most { (b : ℕ) → part.now.among < 2 ^ b → steps.new ≤ steps.old + count.part_steps question.now b part.now }
 {
     match question.first_in(part, steps) {
@@ -53,7 +53,7 @@ fn default_ruling<L: Ledger>(
 }
 
 /// The ruling by the rows of a view: that of the file's first entry, and else that of the defaults.
-#[tactic(auto, unfolding(crate::specs::ByRows::ruling_by_rows, crate::specs::ByRows::ruling_in, crate::specs::ByRows::ruling_at, crate::specs::RuleSteps::file_rows, crate::specs::RuleSteps::file_tested, crate::specs::RuleSteps::least_steps, crate::specs::RuleSteps::file_steps))]
+#[tactic(auto, unfolding(crate::specs::ByRows::ruling_by_rows, crate::specs::ByRows::ruling_in, crate::specs::ByRows::ruling_at, crate::specs::RuleSteps::file_rows, crate::specs::RuleSteps::file_tested, crate::specs::RuleSteps::least_steps, crate::specs::RuleSteps::default_least, crate::specs::RuleSteps::least_behind, crate::specs::RuleSteps::file_steps))]
 fn rule_by_rows<L: Ledger>(
     view: &RuleView<'_>,
     question: &Question<'_>,
@@ -61,6 +61,8 @@ fn rule_by_rows<L: Ledger>(
 ) -> Ruling
     ensures value { result ≡ by.ruling_by_rows question.now view.now }
     ensures least { steps.old + count.least_steps question.now view.now + count.file_tested question.now view.now.file ≤ steps.new }
+    ensures defaults { steps.old + count.least_steps question.now view.now + count.file_tested question.now view.now.file
+        + count.default_least question.now view.now ≤ steps.new }
     ensures most { (b : ℕ) → count.FitsRows b view.now → steps.new ≤ steps.old + count.most_steps question.now b view.now }
 {
     match view.file() {
@@ -101,6 +103,11 @@ pub fn rule<L: Ledger>(
     // So is each wide entry of the file that is tested, up to the first that passes.
     ensures tested { steps.old + count.least_steps (by.asked locals.now now packet.now.fields begun) view.entry
         + count.file_tested (by.asked locals.now now packet.now.fields begun) view.entry.file ≤ steps.new }
+    // Where no entry of the file rules, the rows of the peer and the tested wide entries of the
+    // defaults come to these.
+    ensures defaults { steps.old + count.least_steps (by.asked locals.now now packet.now.fields begun) view.entry
+        + count.file_tested (by.asked locals.now now packet.now.fields begun) view.entry.file
+        + count.default_least (by.asked locals.now now packet.now.fields begun) view.entry ≤ steps.new }
     // There is no step more than the rows of the peer, of the file and of the defaults, the binary
     // digits of the numbers of rows among which they are found, and the wide entries.
     ensures most { (b : ℕ) → count.FitsRows b view.entry

@@ -3,6 +3,7 @@ pub mod BindingPartLaws
 pub mod KeysCleared
 pub mod ClearLaws
 pub mod EditLaws
+pub mod Forgotten
 pub mod IndexLaws
 pub mod KeyLaws
 pub mod LastLaws

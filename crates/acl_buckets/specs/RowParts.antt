@@ -1,5 +1,5 @@
 -- The buckets, one after the other. Their numbers rise with the sort keys of the rows that stand in them.
-use Rattle.std.specs.Prelude.{◌≡◌, ℕ, ◌<◌, ◌≤◌, List, [], ◌∷◌, ◌++◌, length, slice_index_or}
+use Rattle.std.specs.Prelude.{◌≡◌, ℕ, ◌+◌, ◌<◌, ◌≤◌, List, [], ◌∷◌, ◌++◌, length, slice_index_or}
 use Rattle.std.specs.List.{AllByRecursion}
 use Rattle.base_rows.specs.Sortable.{SortKeysAscend}
 use Rattle.mud_base.specs.declared.addr.Addr.{Addr}
@@ -12,7 +12,7 @@ use Rattle.acl_rows.specs.declared.row.Owner.TheVariants.{Default}
 use Rattle.acl_rows.specs.declared.row.Row.{Row}
 use Rattle.acl_rows.specs.SortKeys.{row_sort_key}
 use Rattle.acl_rows.specs.ByAddress.{AddrRoom, SideRows, room_at, AreAddressesCleared}
-use Rattle.acl_buckets.specs.RowBuckets.{bucket_number, edits_of_peer, AreFoundBeside, HasRoom}
+use Rattle.acl_buckets.specs.RowBuckets.{Buckets, bucket_number, edits_of_peer, AreFoundBeside, HasRoom}
 
 -- ---- Buckets
 
@@ -39,6 +39,15 @@ unfoldable pub room_in : Parts → List (List AddrRoom)
 room_in [] = []
 room_in (s ∷ ss) = s.room ∷ room_in ss
 
+-- their limits of addresses
+unfoldable pub limits_in : Parts → List ℕ
+limits_in [] = []
+limits_in (s ∷ ss) = s.limit ∷ limits_in ss
+
+-- the same as contracts outside see it
+abbrev pub seen : Parts → Buckets
+seen parts = record { rows = joined parts; room = room_in parts; limits = limits_in parts }
+
 -- each bucket is of the owner and side of its number, in it stand only rows of these, and all rows are in their order
 pub record AreSorted (parts : Parts) : Type 0 where
   pub own : (k : ℕ) → k < length parts → bucket_number (part_at parts k).owner (part_at parts k).side ≡ k
@@ -61,6 +70,14 @@ pub record AreKept (old new : Parts) : Type 0 where
 -- in the bucket of the edit, the addresses without rows go where there are many
 abbrev pub IsClearedAt : Parts → Parts → Edit Row → Type 0
 IsClearedAt old new edit = AreAddressesCleared (part_at old (row_number edit.row)) (part_at new (row_number edit.row))
+
+-- in each bucket the addresses and their limit stay
+abbrev pub HaveSameRoom : Parts → Parts → Type 0
+HaveSameRoom old new = (k : ℕ) → ((part_at new k).room ≡ (part_at old k).room) × ((part_at new k).limit ≡ (part_at old k).limit)
+
+-- in each bucket the limit stays, and at most so many addresses come
+abbrev pub TakeAtMost : ℕ → Parts → Parts → Type 0
+TakeAtMost n old new = (k : ℕ) → (length (part_at new k).room ≤ length (part_at old k).room + n) × ((part_at new k).limit ≡ (part_at old k).limit)
 
 -- all rows stay, and there may be more room
 pub record AreRoomier (old new : Parts) : Type 0 where

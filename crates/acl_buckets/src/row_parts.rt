@@ -6,8 +6,8 @@ ghost use Rattle.base_rows.specs.Edits.{edit_sort_key, edited};
 ghost use Rattle.acl_rows.specs.declared.row.Peer.{Peer as PeerValue};
 ghost use Rattle.acl_rows.specs.SortKeys.{peer_sort_key, row_sort_key};
 ghost use Rattle.acl_rows.specs.ByAddress.{IsEditAt};
-ghost use Rattle.acl_buckets.specs.RowBuckets.{bucket_number, edits_of_peer, AreFoundBeside, HasRoom};
-ghost use Rattle.acl_buckets.specs.RowParts.{part_at, joined, room_in, AreSorted, AreKept, AreRoomier, IsClearedAt, HasRoomFor, HaveBuckets, AreLeft};
+ghost use Rattle.acl_buckets.specs.RowBuckets.{bucket_number, edits_of_peer, AreFoundBeside, HasRoom, AreForgotten};
+ghost use Rattle.acl_buckets.specs.RowParts.{part_at, joined, room_in, AreSorted, limits_in, seen, AreKept, AreRoomier, HaveSameRoom, TakeAtMost, IsClearedAt, HasRoomFor, HaveBuckets, AreLeft};
 
 use acl_rows::{AddressRows, Owner, Peer, Row};
 use base_rows::{Edit, PrefixOf, SortedRows, Steps};
@@ -92,6 +92,7 @@ fn add_buckets(alloc: Global, buckets: &mut Vec<AddressRows>, number: usize) -> 
     requires number { number ≤ 131073 }
     requires sorted { AreSorted buckets.old.items }
     ensures kept { AreKept buckets.old.items buckets.new.items }
+    ensures same { HaveSameRoom buckets.old.items buckets.new.items }
     ensures ok { OnOk result (number < vec_len buckets.new) }
 {
     while buckets.len() <= number {
@@ -109,6 +110,7 @@ fn add_for(
 ) -> Result<(), Memory>
     requires { AreSorted buckets.old.items }
     ensures kept { AreKept buckets.old.items buckets.new.items }
+    ensures same { HaveSameRoom buckets.old.items buckets.new.items }
     ensures ok { OnOk result (HaveBuckets edits.now.rows (vec_len buckets.new)) }
 {
     match edits.rows().last() {
@@ -148,6 +150,7 @@ fn reserve_peer(
     requires bucketed { bucket_number edit.now.row.owner edit.now.row.side < vec_len buckets.old }
     requires done { (p : PeerValue) → last ≡ Some p → HasRoomFor p.owner p.side p.addr edits.now.rows buckets.old.items }
     ensures kept { AreRoomier buckets.old.items buckets.new.items }
+    ensures most { TakeAtMost 1 buckets.old.items buckets.new.items }
     ensures ok { OnOk result (HasRoomFor edit.now.row.owner edit.now.row.side edit.now.row.addr edits.now.rows buckets.new.items) }
 {
     if let Some(last) = last {
@@ -170,6 +173,7 @@ fn reserve_for(
     requires sorted { AreSorted buckets.old.items }
     requires bucketed { HaveBuckets edits.now.rows (vec_len buckets.old) }
     ensures kept { AreRoomier buckets.old.items buckets.new.items }
+    ensures most { OnOk result (TakeAtMost (length edits.now.rows) buckets.old.items buckets.new.items) }
     ensures ok { OnOk result (HasRoom edits.now.rows (room_in buckets.new.items)) }
 {
     let mut last = None;
@@ -189,6 +193,7 @@ pub(crate) fn make_room(
     requires { AreSorted buckets.old.items }
     ensures kept { AreKept buckets.old.items buckets.new.items }
     ensures ok { OnOk result (HasRoom edits.now.rows (room_in buckets.new.items)) }
+    ensures forgotten { OnOk result (AllByRecursion (AreForgotten edits.now.rows (seen buckets.old.items) (seen buckets.new.items)) edits.now.rows) }
 {
     add_for(alloc, buckets, edits)?;
     clear_for(buckets, edits);
@@ -226,6 +231,7 @@ fn make_last<L: Ledger>(
     requires room { HasRoom edits.old.rows (room_in buckets.old.items) }
     requires found { AreFoundBeside (joined buckets.old.items) edits.old.rows }
     ensures made { AreLeft edits.old.rows edits.new.rows buckets.old.items buckets.new.items }
+    ensures limits { limits_in buckets.new.items ≡ limits_in buckets.old.items }
     ensures counted { steps.new + length edits.new.rows ≡ steps.old + length edits.old.rows }
     ensures fewer { length edits.new.rows < length edits.old.rows }
 {
@@ -245,6 +251,7 @@ pub(crate) fn make_all<L: Ledger>(
     requires found { AreFoundBeside (joined buckets.old.items) edits.rows }
     ensures rows { joined buckets.new.items ≡ edited row_sort_key edits.rows (joined buckets.old.items) }
     ensures sorted { AreSorted buckets.new.items }
+    ensures limits { limits_in buckets.new.items ≡ limits_in buckets.old.items }
     ensures counted { steps.new ≡ steps.old + length edits.rows }
 {
     let mut left = edits;

@@ -1,10 +1,11 @@
 //! Rows in buckets.
 ghost use Rattle.std.specs.Prelude.{◌≡◌, ℕ, ◌+◌, ◌^◌, ◌<◌, ◌≤◌, [], min, length, OnOk};
+ghost use Rattle.std.specs.List.{AllByRecursion};
 ghost use Rattle.base_rows.specs.Edits.{edited};
 ghost use Rattle.acl_rows.specs.SortKeys.{row_sort_key, named_sort_key};
 ghost use Rattle.acl_rows.specs.View.{part, rows_of_side};
 ghost use Rattle.acl_rows.specs.ByAddress.{rows_of_peer, index_beside, until_of_row, AreGroups};
-ghost use Rattle.acl_buckets.specs.RowBuckets.{HasRoom, AreFoundBeside};
+ghost use Rattle.acl_buckets.specs.RowBuckets.{HasRoom, AreFoundBeside, AreForgotten};
 
 use crate::row_parts::{make_all, make_room, number_of, part_of};
 use acl_model::Entry;
@@ -28,11 +29,11 @@ pub struct RowBuckets {
 
 impl Model for RowBuckets {
     ghost use Rattle.acl_buckets.specs.RowBuckets.{Buckets};
-    ghost use Rattle.acl_buckets.specs.RowParts.{joined, room_in, AreBucketed};
+    ghost use Rattle.acl_buckets.specs.RowParts.{joined, room_in, limits_in, AreBucketed};
 
     ghost Value = { Buckets };
 
-    ghost view = { λ s. record { rows = joined s.buckets.items; room = room_in s.buckets.items } };
+    ghost view = { λ s. record { rows = joined s.buckets.items; room = room_in s.buckets.items; limits = limits_in s.buckets.items } };
 
     ghost invariant = { λ s. AreBucketed s.buckets.items s.none.rows };
 }
@@ -41,6 +42,7 @@ impl RowBuckets {
     /// No rows, and no room. It takes no memory.
     pub fn new(alloc: Global) -> RowBuckets
         ensures rows { result.rows ≡ [] }
+        ensures room { result.room ≡ [] }
     {
         RowBuckets {
             buckets: Vec::new(alloc),
@@ -98,10 +100,11 @@ impl RowBuckets {
 
     /// Makes room for a row by each of these edits. The rows stay, also where there is no memory
     /// for it. Where many addresses of a bucket of the edits have no rows any more, they are
-    /// forgotten.
+    /// forgotten, and then at most one more comes for each edit.
     pub fn make_room(&mut self, alloc: Global, edits: &SortedRows<Edit<Row>>) -> Result<(), Memory>
         ensures rows { self.new.rows ≡ self.old.rows }
         ensures ok { OnOk result (HasRoom edits.now.rows self.new.room) }
+        ensures forgotten { OnOk result (AllByRecursion (AreForgotten edits.now.rows self.old self.new) edits.now.rows) }
     {
         make_room(alloc, &mut self.buckets, edits)
     }
@@ -112,6 +115,7 @@ impl RowBuckets {
     pub fn make_edits<L: Ledger>(&mut self, edits: SortedRows<Edit<Row>>, steps: &mut Steps<L>)
         requires room { HasRoom edits.rows self.old.room }
         requires found { AreFoundBeside self.old.rows edits.rows }
+        ensures limits { self.new.limits ≡ self.old.limits }
         ensures rows { self.new.rows ≡ edited row_sort_key edits.rows self.old.rows }
         ensures counted { steps.new ≡ steps.old + length edits.rows }
     {

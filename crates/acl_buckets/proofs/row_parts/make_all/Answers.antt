@@ -10,6 +10,7 @@ pub loop-buckets-preserved : goal.loop-buckets-preserved
 loop-buckets-preserved g c = record {
   sorted = c.make_last.ensures.made.sorted;
   rows = c.make_last.ensures.made.made ∙ c.loop-buckets.invariant.rows;
+  limits = c.make_last.ensures.limits ∙ c.loop-buckets.invariant.limits;
   found = c.make_last.ensures.made.found;
   room = c.make_last.ensures.made.room;
   counted = omega (arith, c.make_last.ensures.counted, c.loop-buckets.invariant.counted);

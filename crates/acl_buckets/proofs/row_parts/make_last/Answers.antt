@@ -2,6 +2,7 @@ use Rattle.std.proofs.Common.{length, ap, sym, subst, arith, length-drop}
 use Rattle.base_rows.specs.Sortable.{SortKeysAscend}
 use Rattle.base_rows.specs.Edits.{edit_sort_key}
 use Rattle.acl_rows.specs.SortKeys.{row_sort_key}
+use Rattle.acl_buckets.proofs.Forgotten.{limits_set}
 use Rattle.acl_buckets.proofs.RunLaws.{last_run, within_by, ready_by, left_by, left_long}
 use Rattle.acl_buckets.proofs.row_parts.make_last.Goals as goal
 
@@ -44,3 +45,8 @@ pub returns-clause-fewer : goal.returns-clause-fewer
 returns-clause-fewer g c =
     let long = left_long c.args.edits.now.rows c.rows.result.now c.make_edits_at.new.edits.rows c.last_peer-start.result.1 c.rows.ensures.rows c.last_peer-start.ensures.end c.make_edits_at.ensures.left in
     omega (arith, long, c.last_peer-start.ensures.end, ap length c.rows.ensures.rows)
+
+pub returns-clause-limits : goal.returns-clause-limits
+returns-clause-limits g c =
+    let within = within_by c.last_peer-start.result.0.owner c.last_peer-start.result.0.side c.last_peer-start.result.0.addr c.args.edits.now.rows c.last_peer-start.result.1 c.number_of-number.result c.args.buckets.now.items (last_run c.last_peer-start.result.0.owner c.last_peer-start.result.0.side c.last_peer-start.result.0.addr c.args.edits.now.rows c.rows.result.now c.last_peer-start.result.1 c.rows.ensures.rows c.rows.ensures.ascend c.last_peer-start.ensures.end c.last_peer-start.ensures.own c.last_peer-start.ensures.others) c.number_of-number.ensures.number c.requires.room in
+    limits_set c.args.buckets.now.items c.number_of-number.result c.index_mut.result.now c.make_edits_at.new.self within c.index_mut.ensures.value c.make_edits_at.ensures.limit

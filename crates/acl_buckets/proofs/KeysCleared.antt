@@ -5,12 +5,14 @@ use Rattle.std.specs.List.{AllByRecursion, slice_get}
 use Rattle.base_rows.specs.Sortable.{RowsAndRoom}
 use Rattle.base_rows.specs.declared.edit.Edit.{Edit}
 use Rattle.base_rows.proofs.SortableLaws.{row_at_row}
+use Rattle.acl_model.specs.declared.binding.MemberKey.{MemberKey}
 use Rattle.acl_model.specs.declared.binding.Binding.{Binding}
 use Rattle.acl_model.specs.SortKeys.{member_sort_key}
 use Rattle.acl_rows.specs.ByAddress.{IsCleared}
 use Rattle.acl_buckets.specs.declared.binding_parts.Bucket.{Bucket}
-use Rattle.acl_buckets.specs.BindingBuckets.{bindings_of_key, has_binding, AreKeysCleared}
-use Rattle.acl_buckets.specs.BindingParts.{bucket_sort_key, has_rows, key_room, part_of, part_at, joined, room_in, AreBucketed}
+use Rattle.acl_buckets.specs.BindingBuckets.{bindings_of_key, edits_of_key, has_binding, AreKeysCleared}
+use Rattle.acl_buckets.specs.BindingParts.{bucket_sort_key, has_rows, has_bucket, key_room, part_of, part_at, joined, room_in, AreBucketed}
+use Rattle.acl_buckets.proofs.KeysAdded.{key_there}
 use Rattle.acl_buckets.proofs.KeyLaws.{tells_key}
 use Rattle.acl_buckets.proofs.BindingPartLaws.{joined_under}
 
@@ -62,10 +64,11 @@ keys_cleared old new limit next are is =
     }
 
 -- after that as many buckets come as told
-pub keys_view : (edits : List (Edit Binding)) (old mid new : List Bucket) (limit next : ℕ) → AreBucketed old → IsCleared has_rows old mid limit next → length new ≤ length mid + length edits
+pub keys_view : (edits : List (Edit Binding)) (old mid new : List Bucket) (limit next : ℕ) → AreBucketed old → IsCleared has_rows old mid limit next → length new ≤ length mid + length edits → ((key : MemberKey) → edits_of_key key edits ≡ [] → has_bucket (member_sort_key key) new ≡ has_bucket (member_sort_key key) mid)
     → AreKeysCleared edits (record { rows = joined old; room = room_in old; limit = limit }) (record { rows = joined new; room = room_in new; limit = next })
-keys_view edits old mid new limit next are is most = record {
+keys_view edits old mid new limit next are is most others = record {
   left = room_in mid;
   cleared = keys_cleared old mid limit next are is;
   most = omega (arith, room_len mid, room_len new, most);
+  others = λ key none. key_there key new ∙ others key none ∙ sym (key_there key mid);
 }

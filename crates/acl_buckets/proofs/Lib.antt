@@ -1,5 +1,6 @@
 pub mod Beside
 pub mod BindingPartLaws
+pub mod KeysAdded
 pub mod KeysCleared
 pub mod ClearLaws
 pub mod EditLaws

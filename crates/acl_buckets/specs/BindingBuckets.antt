@@ -1,6 +1,6 @@
 -- Bindings in buckets: those of one key stand by themselves, and each edit has an index among these.
 use Rattle.std.specs.Prelude.{◌≡◌, ℕ, ◌+◌, ◌≤◌, nat_lt, Bool, List, [], ◌∷◌, length, Result, if◌then◌else◌}
-use Rattle.std.specs.List.{AllByRecursion}
+use Rattle.std.specs.List.{AllByRecursion, list_any}
 use Rattle.base_rows.specs.Sortable.{same_sort_key, index_in, rows_under}
 use Rattle.base_rows.specs.declared.edit.Edit.{Edit}
 use Rattle.base_rows.specs.Edits.{edit_sort_key}
@@ -34,11 +34,21 @@ bindings_of_key key rows = rows_under binding_sort_key (member_sort_key key) row
 unfoldable pub has_binding : List Binding → KeyRoom → Bool
 has_binding rows room = nat_lt 0 (length (bindings_of_key room.key rows))
 
--- where there are as many buckets as the limit, the empty ones go, and then at most as many come as there are edits
+-- the key has a bucket
+unfoldable pub has_key : MemberKey → List KeyRoom → Bool
+has_key key room = list_any (λ r. same_sort_key (member_sort_key r.key) (member_sort_key key)) room
+
+-- the edits of bindings of one key
+unfoldable pub edits_of_key : MemberKey → List (Edit Binding) → List (Edit Binding)
+edits_of_key key edits = rows_under (edit_sort_key binding_sort_key) (member_sort_key key) edits
+
+-- Where there are as many buckets as the limit, the empty ones go. Then at most as many come as there are edits, and only
+-- those of keys that have edits.
 pub record AreKeysCleared (edits : List (Edit Binding)) (old new : KeptBindings) : Type 0 where
   pub left : List KeyRoom
   pub cleared : IsCleared (has_binding old.rows) old.room left old.limit new.limit
   pub most : length new.room ≤ length left + length edits
+  pub others : (key : MemberKey) → edits_of_key key edits ≡ [] → has_key key new.room ≡ has_key key left
 
 -- the index of a binding's sort key among the bindings of its key, or else the index at which it belongs there
 unfoldable pub index_by_key : Binding → List Binding → Result ℕ ℕ
@@ -47,10 +57,6 @@ index_by_key b rows = index_in binding_sort_key (binding_sort_key b) (bindings_o
 -- each edit has the index of its sort key among the bindings of its key
 abbrev pub AreFoundByKey : List Binding → List (Edit Binding) → Type 0
 AreFoundByKey rows edits = AllByRecursion (λ edit. edit.found ≡ index_by_key edit.row rows) edits
-
--- the edits of bindings of one key
-unfoldable pub edits_of_key : MemberKey → List (Edit Binding) → List (Edit Binding)
-edits_of_key key edits = rows_under (edit_sort_key binding_sort_key) (member_sort_key key) edits
 
 -- for each key there is room for a binding by each of its edits
 pub record HasRoomByKey (edits : List (Edit Binding)) (room : List KeyRoom) : Type 0 where

@@ -1,7 +1,7 @@
 -- The buckets, one after the other. What stands here is used by contracts inside the crate alone.
-use Rattle.std.specs.Prelude.{◌≡◌, ℕ, ◌+◌, ◌≤◌, nat_lt, Bool, List, [], ◌∷◌, ◌++◌, length, Option, Some, None}
-use Rattle.std.specs.List.{AllByRecursion}
-use Rattle.base_rows.specs.Sortable.{SortKeysAscend, RowsAndRoom, row_at, index_in, set_row}
+use Rattle.std.specs.Prelude.{◌≡◌, ℕ, ◌+◌, ◌≤◌, nat_lt, Bool, false, List, [], ◌∷◌, ◌++◌, length, Option, Some, None}
+use Rattle.std.specs.List.{AllByRecursion, list_any}
+use Rattle.base_rows.specs.Sortable.{same_sort_key, SortKeysAscend, RowsAndRoom, row_at, index_in, set_row}
 use Rattle.base_rows.specs.declared.edit.Edit.{Edit}
 use Rattle.base_rows.specs.Edits.{edit_made}
 use Rattle.acl_model.specs.declared.binding.Binding.{Binding}
@@ -30,6 +30,10 @@ part_of (Some s) = s.bindings
 -- what stands in the bucket of a sort key
 unfoldable pub part_at : List ℕ → List Bucket → RowsAndRoom Binding
 part_at sort_key buckets = part_of (row_at bucket_sort_key sort_key buckets)
+
+-- there is a bucket at the sort key
+unfoldable pub has_bucket : List ℕ → List Bucket → Bool
+has_bucket sort_key buckets = list_any (λ s. same_sort_key (bucket_sort_key s) sort_key) buckets
 
 -- all bindings
 unfoldable pub joined : List Bucket → List Binding
@@ -66,6 +70,10 @@ pub record AreRoomier (old new : List Bucket) : Type 0 where
   pub bucketed : AreBucketed new
   pub rows : joined new ≡ joined old
   pub room : (sort_key : List ℕ) → (part_at sort_key old).room ≤ (part_at sort_key new).room
+
+-- at no other sort key than this a bucket comes or goes
+abbrev pub HaveOthers : List ℕ → List Bucket → List Bucket → Type 0
+HaveOthers own old new = (sort_key : List ℕ) → same_sort_key own sort_key ≡ false → has_bucket sort_key new ≡ has_bucket sort_key old
 
 -- each edit has the index that its sort key has in the bucket of its key
 abbrev pub AreFoundIn : List Bucket → List (Edit Binding) → Type 0

@@ -6,7 +6,7 @@ ghost use Rattle.acl_model.specs.SortKeys.{text_sort_key, member_sort_key, bindi
 ghost use Rattle.acl_model.specs.declared.binding.MemberKey.{MemberKey as KeyValue};
 ghost use Rattle.acl_buckets.specs.BindingBuckets.{HasRoomByKey, edits_of_key};
 ghost use Rattle.acl_rows.specs.ByAddress.{IsCleared};
-ghost use Rattle.acl_buckets.specs.BindingParts.{bucket_sort_key, has_rows, part_at, joined, room_in, AreBucketed, AreRoomier, AreFoundIn, IsEdited};
+ghost use Rattle.acl_buckets.specs.BindingParts.{bucket_sort_key, has_rows, has_bucket, part_at, joined, room_in, AreBucketed, AreRoomier, HaveOthers, AreFoundIn, IsEdited};
 
 use acl_model::{Binding, KeyText, MemberKey, order_keys, same_key};
 use base_rows::{Edit, PrefixOf, SortedRows, Steps, make_edit};
@@ -91,6 +91,7 @@ fn add_bucket(alloc: Global, buckets: &mut Vec<Bucket>, key: &MemberKey) -> Resu
     requires { AreBucketed buckets.old.items }
     ensures kept { AreRoomier buckets.old.items buckets.new.items }
     ensures most { length buckets.new.items ≤ length buckets.old.items + 1 }
+    ensures others { HaveOthers (member_sort_key key.now) buckets.old.items buckets.new.items }
     ensures ok { IfOk result (λ index. index_in bucket_sort_key (member_sort_key key.now) buckets.new.items ≡ Ok index) }
 {
     match bucket_of(buckets.as_slice(), key.key_text()) {
@@ -114,6 +115,7 @@ fn reserve_bucket(
     requires { AreBucketed buckets.old.items }
     ensures kept { AreRoomier buckets.old.items buckets.new.items }
     ensures most { length buckets.new.items ≤ length buckets.old.items + 1 }
+    ensures others { HaveOthers (member_sort_key key.now) buckets.old.items buckets.new.items }
     ensures ok { OnOk result (more ≤ (part_at (member_sort_key key.now) buckets.new.items).room) }
 {
     let index = add_bucket(alloc, buckets, key)?;
@@ -144,6 +146,7 @@ fn reserve_key(
         → length (edits_of_key k edits.now.rows) ≤ (part_at (member_sort_key k) buckets.old.items).room }
     ensures kept { AreRoomier buckets.old.items buckets.new.items }
     ensures most { length buckets.new.items ≤ length buckets.old.items + 1 }
+    ensures others { HaveOthers (member_sort_key key.now) buckets.old.items buckets.new.items }
     ensures ok { OnOk result (length (edits_of_key key.now edits.now.rows) ≤ (part_at (member_sort_key key.now) buckets.new.items).room) }
 {
     if is_last(last, key) {
@@ -163,6 +166,8 @@ pub(crate) fn make_room(
     requires { AreBucketed buckets.old.items }
     ensures kept { AreRoomier buckets.old.items buckets.new.items }
     ensures most { length buckets.new.items ≤ length buckets.old.items + length edits.now.rows }
+    ensures others { (key : KeyValue) → edits_of_key key edits.now.rows ≡ []
+        → has_bucket (member_sort_key key) buckets.new.items ≡ has_bucket (member_sort_key key) buckets.old.items }
     ensures ok { OnOk result (HasRoomByKey edits.now.rows (room_in buckets.new.items)) }
 {
     let list = edits.rows();

@@ -1,4 +1,4 @@
-use Rattle.std.proofs.Common.{◌≡◌, ◌≤◌, ◌<◌, List, length, get_or, ap, subst, arith}
+use Rattle.std.proofs.Common.{◌≡◌, ◌≤◌, ◌<◌, List, length, get_or, ap, subst, ◌∙◌, arith}
 use Rattle.std.proofs.lemmas.Option.{same_Some}
 use Rattle.acl_model.specs.declared.binding.MemberKey.{MemberKey}
 use Rattle.acl_model.specs.declared.binding.Binding.{Binding}
@@ -7,6 +7,7 @@ use Rattle.base_rows.specs.declared.edit.Edit.{Edit}
 use Rattle.acl_buckets.specs.BindingBuckets.{edits_of_key}
 use Rattle.acl_buckets.specs.BindingParts.{part_at}
 use Rattle.acl_buckets.proofs.BindingPartLaws.{roomier_twice}
+use Rattle.acl_buckets.proofs.KeysAdded.{of_another}
 use Rattle.acl_buckets.proofs.EditLaws.{next_room, all_room}
 use Rattle.acl_buckets.proofs.binding_parts.make_room.Goals as goal
 
@@ -17,6 +18,12 @@ loop-edit-preserved c =
     record {
       kept = roomier_twice _ _ _ c.loop-edit.invariant.kept c.reserve_key.ensures.kept;
       most = omega (arith, c.loop-edit.invariant.most, c.reserve_key.ensures.most);
+      others = λ key none.
+          c.reserve_key.ensures.others (member_sort_key key)
+          (of_another key c.args.edits.now.rows c.loop-edit.edit-index c.edit-item.result
+          (subst (λ (es : List (Edit Binding)). c.loop-edit.edit-index < length es) c.rows-list.ensures.rows c.loop-edit-test.true)
+          (subst (λ (es : List (Edit Binding)). c.edit-item.result ≡ get_or es c.loop-edit.edit-index c.edit-item.result) c.rows-list.ensures.rows c.edit-item.is) none)
+          ∙ c.loop-edit.invariant.others key none;
       each =
           next_room c.args.edits.now.rows c.loop-edit.buckets.items c.reserve_key.new.buckets.items c.loop-edit.edit-index e c.reserve_key.ensures.kept
           (subst (λ (es : List (Edit Binding)). c.loop-edit.edit-index < length es) rows c.loop-edit-test.true)
@@ -36,3 +43,11 @@ returns-in_err-reserve_key-clause-most c = omega (arith, c.loop-edit.invariant.m
 
 pub returns-clause-most : goal.returns-clause-most
 returns-clause-most c = omega (arith, c.loop-edit.invariant.most, ap length c.rows-list.ensures.rows)
+
+pub returns-in_err-reserve_key-clause-others : goal.returns-in_err-reserve_key-clause-others
+returns-in_err-reserve_key-clause-others c = λ key none.
+    c.reserve_key.ensures.others (member_sort_key key)
+    (of_another key c.args.edits.now.rows c.loop-edit.edit-index c.edit-item.result
+    (subst (λ (es : List (Edit Binding)). c.loop-edit.edit-index < length es) c.rows-list.ensures.rows c.loop-edit-test.true)
+    (subst (λ (es : List (Edit Binding)). c.edit-item.result ≡ get_or es c.loop-edit.edit-index c.edit-item.result) c.rows-list.ensures.rows c.edit-item.is) none)
+    ∙ c.loop-edit.invariant.others key none

@@ -7,6 +7,7 @@ use Rattle.acl_model.specs.SortKeys.{member_sort_key}
 use Rattle.acl_buckets.specs.declared.binding_parts.Bucket.{Bucket}
 use Rattle.acl_buckets.specs.BindingParts.{bucket_sort_key}
 use Rattle.acl_buckets.proofs.BindingPartLaws.{roomier_twice, roomier_set, set_part, same_key_bucket}
+use Rattle.acl_buckets.proofs.KeysAdded.{others_set, others_twice}
 use Rattle.acl_buckets.proofs.binding_parts.reserve_bucket.Goals as goal
 
 pub index_mut-requires : goal.index_mut-requires
@@ -27,3 +28,10 @@ returns-clause-ok c =
     let new : Bucket = record { key = old.key; bindings = c.reserve.new.self } in
     let at = set_part (member_sort_key c.args.key.now) c.add_bucket.new.buckets.items c.in_ok-index.index old new c.add_bucket.ensures.kept.bucketed c.in_ok-index.ensures.ok c.index_mut.ensures.value (same_key_bucket new old refl) in
     on_ok_weaker c.reserve.result (λ few. subst (λ (p : RowsAndRoom Binding). c.args.more ≤ p.room) (sym at) few) c.reserve.ensures.ok
+
+pub returns-clause-others : goal.returns-clause-others
+returns-clause-others c =
+    let old : Bucket = c.index_mut.result.now in
+    let new : Bucket = record { key = old.key; bindings = c.reserve.new.self } in
+    let lt = found_within bucket_sort_key (member_sort_key c.args.key.now) c.add_bucket.new.buckets.items c.in_ok-index.index c.in_ok-index.ensures.ok in
+    others_twice (member_sort_key c.args.key.now) _ _ _ c.add_bucket.ensures.others (others_set (member_sort_key c.args.key.now) c.add_bucket.new.buckets.items c.in_ok-index.index old new lt c.index_mut.ensures.value (same_key_bucket new old refl))

@@ -9,4 +9,4 @@ returns-clause-cleared c =
     let s = c.self.inside in
     let now : KeptBindings = record { rows = joined c.make_room.new.buckets.items; room = room_in c.make_room.new.buckets.items; limit = c.clear_buckets-self-inside.result } in
     subst (λ (k : KeptBindings). AreKeysCleared c.args.edits.now.rows k now) c.self.view_is
-    (keys_view c.args.edits.now.rows s.buckets.items c.clear_buckets-self-inside.new.buckets.items c.make_room.new.buckets.items s.limit c.clear_buckets-self-inside.result c.self.invariant.bucketed c.clear_buckets-self-inside.ensures.cleared c.make_room.ensures.most)
+    (keys_view c.args.edits.now.rows s.buckets.items c.clear_buckets-self-inside.new.buckets.items c.make_room.new.buckets.items s.limit c.clear_buckets-self-inside.result c.self.invariant.bucketed c.clear_buckets-self-inside.ensures.cleared c.make_room.ensures.most c.make_room.ensures.others)

@@ -1,5 +1,5 @@
 -- The slots of URLs in the table of policies: a ruling finds the policy of a URL by them.
-use Rattle.std.specs.Prelude.{◌≡◌, ℕ, zero, suc, ◌+◌, ◌*◌, ◌%◌, ◌^◌, List, reverse, slice_index, Option, Some, None, option_map}
+use Rattle.std.specs.Prelude.{◌≡◌, ℕ, zero, suc, ◌+◌, ◌*◌, ◌%◌, ◌^◌, false, List, bytes_eq, reverse, slice_index, Option, Some, None, option_map}
 use Rattle.base_rows.specs.Sortable.{row_at, set_row, without_row}
 use Rattle.acl_model.specs.declared.entry.Policy.{Policy}
 use Rattle.acl_model.specs.declared.binding.Binding.{Binding}
@@ -40,6 +40,10 @@ guess_number url = lead 8 0 (reverse url) % 1021
 -- the slot that is guessed for a URL
 unfoldable pub guess_at : List ℕ → List ℕ → ℕ
 guess_at guesses url = slice_index guesses (guess_number url)
+
+-- in the slot that is guessed for a URL stands no policy of it
+abbrev pub IsMissed : Slots → List ℕ → List ℕ → Type 0
+IsMissed slots guesses url = (held : UrlPolicy) → held_by slots (Url (guess_at guesses url)) ≡ Some held → bytes_eq held.url url ≡ false
 
 -- no policy in another slot is of a URL with the same guess as that of this slot
 abbrev pub HasOwnGuess : Slots → ℕ → List ℕ → Type 0

@@ -6,7 +6,7 @@ ghost use Rattle.acl_changes.specs.Patch.{rows_apart};
 ghost use Rattle.acl_changes.specs.Touched.{touches};
 ghost use Rattle.acl_compile.specs.Compiled.{HasItsRows};
 ghost use Rattle.acl_compile.specs.Plans.{Fits, slots_after, bindings_after, IsKept, IsMemberPlan, IsPolicyPlan, CanBeCounted, held_for, others_held, policy_reads, policy_steps};
-ghost use Rattle.acl_changes.specs.Steps.{least_steps, HaveKeys, PolicyKeys, sort_key_steps};
+ghost use Rattle.acl_changes.specs.Steps.{least_looks, least_steps, HaveKeys, PolicyKeys, sort_key_steps};
 
 use crate::plan::{RowPlan, others_in, plan_change, plan_slot, set_slot};
 use crate::url_slots::{SlotGuesses, UrlSlot, find_guessed, set_url_slot};
@@ -109,7 +109,8 @@ impl Compiled {
     /// Plans a change of bindings: these go and those come. What is kept stays as it is, whatever
     /// the answer. It reads the sort keys that the change touches: for each binding that goes or
     /// comes the entries that have its key, at its address. Each is looked for among the rows of
-    /// its owner, side and address, which is a step at least where there are any.
+    /// its owner, side and address, which is a step at least where there are any. So is each of
+    /// these bindings among those of its key.
     pub fn plan_member<L: Ledger>(
         &mut self,
         gone: &[Binding],
@@ -118,6 +119,8 @@ impl Compiled {
     ) -> Result<RowPlan, Memory>
         ensures kept { IsKept self.old self.new }
         ensures ok { IfOk result (λ plan. IsMemberPlan gone.now come.now self.new plan) }
+        ensures looked { OnOk result (steps.old + least_looks self.old.bindings gone.now + least_looks self.old.bindings come.now
+            + least_steps self.old.rows (touches self.old.slots (gone.now ++ come.now)) ≤ steps.new) }
         ensures least { OnOk result (steps.old + least_steps self.old.rows (touches self.old.slots (gone.now ++ come.now)) ≤ steps.new) }
         ensures most { (s b k : ℕ) → HaveKeys s self.old.slots → length self.old.bindings + length come.now < 2 ^ b → length self.old.rows < 2 ^ k
             → steps.new ≤ steps.old + (length gone.now + length come.now + length (touches self.old.slots (gone.now ++ come.now))) * sort_key_steps s b k }
@@ -156,6 +159,7 @@ impl Compiled {
             self.alloc,
             &mut self.slots,
             &mut self.url_slots,
+            &self.guesses,
             &self.bindings,
             &mut self.rows,
             url,

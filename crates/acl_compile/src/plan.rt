@@ -9,9 +9,9 @@ ghost use Rattle.acl_compile.specs.UrlSlots.{AreSlotsOf};
 ghost use Rattle.acl_compile.specs.Plans as spec;
 ghost use Rattle.acl_compile.specs.Plans.{slot_set, IsMemberPlan, IsPolicyPlan, IsSlotFor, CanBeCounted, held_for, others_held, policy_reads, policy_steps};
 ghost use Rattle.acl_buckets.specs.RowBuckets.{HasRoom};
-ghost use Rattle.acl_changes.specs.Steps.{least_steps, HaveKeys, PolicyKeys, sort_key_steps};
+ghost use Rattle.acl_changes.specs.Steps.{least_looks, least_steps, HaveKeys, PolicyKeys, sort_key_steps};
 
-use crate::url_slots::{UrlSlot, find_held};
+use crate::url_slots::{SlotGuesses, UrlSlot, find_guessed};
 use acl_buckets::{BindingBuckets, RowBuckets};
 use acl_changes::{Change, CompiledPolicy, Held, HeldDefaults, Holding, edits_of, slot_rows};
 use acl_model::{Binding, Policy};
@@ -72,6 +72,8 @@ pub(crate) fn plan_change<L: Ledger>(
     ensures bindings { bindings.new.rows ≡ bindings.old.rows }
     ensures rows { rows.new.rows ≡ rows.old.rows }
     ensures ok { IfOk result (λ plan. (room url_slot_room : ℕ) → IsMemberPlan gone.now come.now (compiled_state slots.now bindings.new rows.new room url_slot_room) plan) }
+    ensures looked { OnOk result (steps.old + least_looks bindings.old.rows gone.now + least_looks bindings.old.rows come.now
+        + least_steps rows.old.rows (touches slots.now (gone.now ++ come.now)) ≤ steps.new) }
     ensures read { OnOk result (steps.old + least_steps rows.old.rows (touches slots.now (gone.now ++ come.now)) ≤ steps.new) }
     ensures most { (s b k : ℕ) → HaveKeys s slots.now → length bindings.old.rows + length come.now < 2 ^ b → length rows.old.rows < 2 ^ k
         → steps.new ≤ steps.old + (length gone.now + length come.now + length (touches slots.now (gone.now ++ come.now))) * sort_key_steps s b k }
@@ -131,13 +133,18 @@ fn free_slot(slots: &[Option<Held>]) -> usize
 }
 
 /// The slot of a URL: the one in which its policy is held, or else a free one.
-fn slot_for(slots: &[Option<Held>], url_slots: &SortedRows<UrlSlot>, url: &MudUrl) -> usize
+fn slot_for(
+    slots: &[Option<Held>],
+    url_slots: &SortedRows<UrlSlot>,
+    guesses: &SlotGuesses,
+    url: &MudUrl,
+) -> usize
     requires few { length slots.now ≤ 128 }
     requires apart { UrlsApart slots.now }
     requires url_slots { AreSlotsOf slots.now url_slots.now.rows }
     ensures { IsSlotFor url.now slots.now result }
 {
-    match find_held(slots, url_slots, url) {
+    match find_guessed(slots, url_slots, guesses, url) {
         Some((slot_number, _)) => usize::from(slot_number),
         None => free_slot(slots),
     }
@@ -183,6 +190,7 @@ pub(crate) fn plan_slot<L: Ledger>(
     alloc: Global,
     slots: &mut Vec<Option<Held>>,
     url_slots: &mut SortedRows<UrlSlot>,
+    guesses: &SlotGuesses,
     bindings: &BindingBuckets,
     rows: &mut RowBuckets,
     url: &MudUrl,
@@ -203,7 +211,7 @@ pub(crate) fn plan_slot<L: Ledger>(
     ensures most { (s b k : ℕ) → HaveKeys s slots.old.items → PolicyKeys s (held_for url.now (option_copied policy.entry)) → length bindings.now.rows < 2 ^ b → length rows.old.rows < 2 ^ k
         → steps.new ≤ steps.old + policy_steps url.now (option_copied policy.entry) slots.old.items bindings.now.rows rows.old.rows s b k }
 {
-    let slot_number = slot_for(slots.as_slice(), url_slots, url);
+    let slot_number = slot_for(slots.as_slice(), url_slots, guesses, url);
     let held = held_policy(alloc, url, policy)?;
     let Ok(edits) = slot_rows(
         alloc,

@@ -1,12 +1,13 @@
 //! The slots of URLs in the table of policies, in the order of the URLs' texts, read from behind.
-ghost use Rattle.std.specs.Prelude.{◌≡◌, ◌≢◌, ℕ, ◌<◌, ◌≤◌, true, Some, bytes_eq, length, reverse, slice_index, option_copied, option_map, IfSome};
+ghost use Rattle.std.specs.Prelude.{◌≡◌, ◌≢◌, ℕ, ◌<◌, ◌≤◌, true, Some, bytes_eq, false, length, reverse, slice_index, option_copied, option_map, IfSome, IfNone};
 ghost use Rattle.base_rows.specs.Sortable.{sort_key_cmp};
+ghost use Rattle.acl_model.specs.Policies.{UrlPolicy};
 ghost use Rattle.acl_rows.specs.Rows.{held_by};
 ghost use Rattle.acl_rows.specs.View.{holder_from};
 ghost use Rattle.acl_compile.specs.Compiled.{UrlsApart};
 ghost use Rattle.acl_compile.specs.Plans.{slot_set};
 ghost use Rattle.mud_base.specs.Numbers.{IsOctets};
-ghost use Rattle.acl_compile.specs.UrlSlots.{lead, guess_number, guess_at, AreGuessed, AreSlotsOf, url_slots_without, url_slots_with};
+ghost use Rattle.acl_compile.specs.UrlSlots.{lead, guess_number, guess_at, AreGuessed, AreSlotsOf, IsMissed, url_slots_without, url_slots_with};
 
 use acl_changes::Held;
 use acl_rows::Owner;
@@ -209,15 +210,19 @@ fn held_in(slots: &[Option<Held>], index: usize) -> Option<&Held>
     }
 }
 
-/// The policy that is held for a URL, and its slot.
-pub(crate) fn find_held<'a>(
+/// The policy that is held for a URL, and its slot, searched among all others: only where the slot
+/// that is guessed isn't its.
+fn find_held<'a>(
     slots: &'a [Option<Held>],
     url_slots: &SortedRows<UrlSlot>,
+    guesses: &SlotGuesses,
     url: &MudUrl,
 ) -> Option<(u16, &'a Held)>
-    requires { AreSlotsOf slots.now url_slots.now.rows }
+    requires url_slots { AreSlotsOf slots.now url_slots.now.rows }
+    requires missed { IsMissed slots.now guesses.now url.now }
     ensures { option_map (λ h. (Owner.Url h.0, h.1.now)) result ≡ holder_from url.now 0 slots.now }
 {
+    let _missed = guesses;
     let found = url_slots.get(&UrlKey::new(url))?;
     let slot_number = found.slot_number();
     let held = held_in(slots, usize::from(slot_number))?;
@@ -296,6 +301,7 @@ fn guess_of(url: &MudUrl) -> usize
 fn held_for_url<'a>(slots: &'a [Option<Held>], slot_number: u16, url: &MudUrl) -> Option<&'a Held>
     ensures held { IfSome result (λ held. held_by slots.now (Owner.Url slot_number) ≡ Some held.now) }
     ensures own { IfSome result (λ held. bytes_eq held.now.url url.now ≡ true) }
+    ensures missed { IfNone result ((held : UrlPolicy) → held_by slots.now (Owner.Url slot_number) ≡ Some held → bytes_eq held.url url.now ≡ false) }
 {
     let held = held_in(slots, usize::from(slot_number))?;
     if held.url().text() == url.text() {
@@ -319,7 +325,7 @@ pub(crate) fn find_guessed<'a>(
     let slot_number = guesses.slot_number(url);
     match held_for_url(slots, slot_number, url) {
         Some(held) => Some((slot_number, held)),
-        None => find_held(slots, url_slots, url),
+        None => find_held(slots, url_slots, guesses, url),
     }
 }
 

@@ -5,6 +5,8 @@
 #[cfg(test)]
 mod addresses;
 #[cfg(test)]
+mod captured_lines;
+#[cfg(test)]
 mod captures;
 #[cfg(test)]
 mod dns;

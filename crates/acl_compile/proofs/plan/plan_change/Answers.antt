@@ -58,3 +58,8 @@ pub returns-clause-read : goal.returns-clause-read
 returns-clause-read g c =
     let read = subst (λ (s : ChangeState). c.edits_of.new.steps + least_steps s.rows (touches s.slots (s.gone ++ s.come)) ≤ c.plan.new.steps) c.new-change.ensures c.in_ok-row_edits.ensures.read in
     omega (arith, read, c.edits_of.ensures.least)
+
+pub returns-clause-looked : goal.returns-clause-looked
+returns-clause-looked g c =
+    let read = subst (λ (s : ChangeState). c.edits_of.new.steps + least_steps s.rows (touches s.slots (s.gone ++ s.come)) ≤ c.plan.new.steps) c.new-change.ensures c.in_ok-row_edits.ensures.read in
+    omega (arith, read, c.in_ok-binding_edits.ensures.looked)

@@ -10,7 +10,7 @@ use Rattle.acl_rows.specs.View.{rows_of_side}
 use Rattle.acl_rows.specs.ByAddress.{SideRows, IsCleared, has_row}
 use Rattle.acl_rows.proofs.Lists.{all_implied}
 use Rattle.acl_buckets.specs.RowBuckets.{bucket_number, addresses_of, limit_of, AreForgotten}
-use Rattle.acl_buckets.specs.RowParts.{row_number, Parts, nothing, part_at, joined, room_in, limits_in, seen, AreSorted, AreKept, HaveSameRoom, TakeAtMost, IsClearedAt}
+use Rattle.acl_buckets.specs.RowParts.{row_number, Parts, nothing, part_at, joined, room_in, limits_in, seen, AreSorted, HaveSameRoom, TakeAtMost, IsClearedAt}
 use Rattle.acl_buckets.proofs.RowPartLaws.{part_read, set_here, set_other, side_joined}
 
 -- ---- The addresses and the limit of a bucket

@@ -1,5 +1,5 @@
 -- Which keys have a bucket once room was made.
-use Rattle.std.proofs.Common.{◌≡◌, ℕ, zero, suc, ◌+◌, ◌<◌, ◌≤◌, Bool, true, false, ◌||◌, cond, List, [], ◌∷◌, length, set, get_or, insert, refl, sym, ap, ◌∙◌, arith}
+use Rattle.std.proofs.Common.{◌≡◌, ℕ, zero, suc, ◌<◌, Bool, true, false, ◌||◌, cond, List, [], ◌∷◌, length, set, get_or, insert, refl, sym, ap, ◌∙◌, arith}
 use Rattle.std.specs.List.{list_any}
 use Rattle.base_rows.specs.Sortable.{same_sort_key, is_under}
 use Rattle.base_rows.specs.declared.edit.Edit.{Edit}

@@ -1,5 +1,5 @@
 //! Buckets, one after the other, each with the rows of one owner and side.
-ghost use Rattle.std.specs.Prelude.{◌≡◌, ℕ, ◌+◌, ◌<◌, ◌≤◌, [], Some, length, take, drop, OnOk, vec_len};
+ghost use Rattle.std.specs.Prelude.{◌≡◌, ◌+◌, ◌<◌, ◌≤◌, [], Some, length, take, drop, OnOk, vec_len};
 ghost use Rattle.std.specs.List.{AllByRecursion};
 ghost use Rattle.base_rows.specs.Sortable.{is_under, SortKeysAscend};
 ghost use Rattle.base_rows.specs.Edits.{edit_sort_key, edited};

@@ -1,8 +1,7 @@
 //! The edits of bindings that go and come.
-ghost use Rattle.std.specs.Prelude.{◌≡◌, ℕ, ◌+◌, ◌*◌, ◌^◌, ◌<◌, ◌≤◌, ◌++◌, [], length, OnOk, IfOk, true, false, map};
+ghost use Rattle.std.specs.Prelude.{◌≡◌, ℕ, ◌+◌, ◌*◌, ◌^◌, ◌<◌, ◌≤◌, [], length, OnOk, IfOk, true, false, map};
 ghost use Rattle.base_rows.specs.Sortable.{set_rows};
 ghost use Rattle.acl_model.specs.SortKeys.{binding_sort_key};
-ghost use Rattle.acl_model.specs.Changes.{replaced};
 ghost use Rattle.base_rows.specs.Edits.{edit_sort_key};
 ghost use Rattle.acl_changes.specs.Bindings.{binding_edit, AreEditsOf};
 ghost use Rattle.acl_changes.specs.Steps.{least_looks};

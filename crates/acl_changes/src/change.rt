@@ -20,7 +20,7 @@ ghost use Rattle.acl_changes.specs.Touched as touched;
 ghost use Rattle.acl_changes.specs.Keys.{sort_key_of_text};
 ghost use Rattle.acl_changes.specs.Fresh.{AreBoundFirst};
 ghost use Rattle.acl_changes.specs.Change.{expiry_in, met_expiry, expiry_of_row, after, more_edits, slot_touches, change_state};
-ghost use Rattle.acl_changes.specs.Steps.{key_steps, least_step, least_steps, EntriesFit, HolderFits};
+ghost use Rattle.acl_changes.specs.Steps.{key_steps, least_step, least_steps, HolderFits};
 ghost use Rattle.acl_changes.specs.Policies.{HasCounts, AllHeld};
 
 use crate::policies::{Held, HeldDefaults};

@@ -13,12 +13,12 @@ use Rattle.acl_changes.specs.Steps.{HaveKeys, sort_key_steps}
 use Rattle.mud_file.specs.declared.usage_file.UsageFile.{UsageFile}
 use Rattle.usage_tables.specs.declared.cached_file.CachedFile.{CachedFile}
 use Rattle.usage_tables.specs.declared.file_edit.PolicyChange.{PolicyChange}
-use Rattle.usage_tables.specs.declared.file_edit.PolicyChange.TheVariants.{Comes, Goes}
+use Rattle.usage_tables.specs.declared.file_edit.PolicyChange.TheVariants.{Stays, Comes, Goes}
 use Rattle.usage_tables.specs.Held.{HeldFile, usage_in}
 use Rattle.usage_tables.specs.Files.{file_at}
 use Rattle.usage_tables.specs.Policies.{policy_in_held, candidate_in_row, candidate_policy, policy_after}
 use Rattle.usage_tables.proofs.EntryBounds.{few_outgoing, few_incoming}
-use Rattle.desk_books.specs.RowPlans.{IsFileRows, IsPaidByPolicy}
+use Rattle.desk_books.specs.RowPlans.{IsFileRows, IsPaidByPolicy, IsFileRead, AreRead}
 use Rattle.usage_tables.proofs.Parts.{policy_in_file}
 
 -- ---- The entries of a policy can be counted
@@ -70,6 +70,23 @@ module _ (change : PolicyChange) (url : List ℕ) (files : List CachedFile) (com
   pub goes_paid : (steps : ℕ) → Goes ≡ change → IsPaidByPolicy url None compiled steps → IsPaidByPolicy url (policy_after change files url) compiled steps
   unfolding policy_after
   goes_paid steps e p = subst (λ (x : PolicyChange). IsPaidByPolicy url (policy_after x files url) compiled steps) e p
+
+  pub stays_read : (steps : ℕ) → Stays ≡ change → IsFileRead change url files compiled steps
+  stays_read steps e = subst (λ (x : PolicyChange). IsFileRead x url files compiled steps) e tt
+
+  comes_read : (steps : ℕ) → Comes ≡ change → AreRead url (candidate_policy files url) compiled steps → IsFileRead change url files compiled steps
+  unfolding policy_after
+  comes_read steps e p = subst (λ (x : PolicyChange). IsFileRead x url files compiled steps) e p
+
+  -- by the policy that was lent
+  pub lent_read : (steps : ℕ) (url' : List ℕ) (policy : Option Policy) → Comes ≡ change → url' ≡ url → policy ≡ candidate_policy files url' → AreRead url' policy compiled steps → IsFileRead change url files compiled steps
+  lent_read steps url' policy e same is p =
+      let here : AreRead url' (candidate_policy files url') compiled steps = subst (λ (o : Option Policy). AreRead url' o compiled steps) is p in
+      comes_read steps e (subst (λ (u : List ℕ). AreRead u (candidate_policy files u) compiled steps) same here)
+
+  pub goes_read : (steps : ℕ) → Goes ≡ change → AreRead url None compiled steps → IsFileRead change url files compiled steps
+  unfolding policy_after
+  goes_read steps e p = subst (λ (x : PolicyChange). IsFileRead x url files compiled steps) e p
 
 -- no binding goes or comes
 pub none_paid : (url : List ℕ) (policy : Option Policy) (compiled : CompiledState) (old new : ℕ)

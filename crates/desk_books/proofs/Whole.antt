@@ -1,6 +1,6 @@
 -- A plan of the whole desk: in its book, and in the rows.
 use Rattle.std.proofs.Common.{◌≡◌, ℕ, ◌≤◌, Option, Result, Ok, Err, refl, sym, ap, subst, ◌∙◌, inr}
-use Rattle.std.specs.Prelude.{IsOkAnd, IfOk}
+use Rattle.std.specs.Prelude.{IsOkAnd, IfOk, OnOk}
 use Rattle.mud_base.specs.declared.memory.Memory.{Memory}
 use Rattle.desk_model.specs.declared.reply.Refusal.{Refusal}
 use Rattle.acl_compile.specs.Compiled.{CompiledState}
@@ -22,12 +22,12 @@ use Rattle.file_cache.specs.Changes.{Files}
 use Rattle.bind_book.specs.Book.{Book}
 use Rattle.desk_books.specs.Books.{Books, desk_in, desk_of, desk_with, books_with, AreKept}
 use Rattle.desk_books.specs.Changes.{PlannedChange, change_of, with_change, with_stamp, desk_after}
-use Rattle.desk_books.specs.Planned.{CanCommit, IsCommitted, IsReady, IsPlanned, IsPaid, PaysFor}
+use Rattle.desk_books.specs.Planned.{CanCommit, IsCommitted, IsReady, IsPlanned, IsPaid, PaysFor, IsRead, ReadsFor}
 use Rattle.desk_books.specs.InBooks.{IsPlanIn}
-use Rattle.desk_books.specs.RowPlans.{IsRowPlan, IsRowsPaid}
+use Rattle.desk_books.specs.RowPlans.{IsRowPlan, IsRowsPaid, IsRowsRead}
 use Rattle.desk_books.proofs.Desks.{compiled_kept}
 use Rattle.desk_books.proofs.Planning.{things_planned, files_planned, binds_planned}
-use Rattle.desk_books.proofs.Paid.{things_paid, files_paid, binds_paid}
+use Rattle.desk_books.proofs.Paid.{things_paid, files_paid, binds_paid, things_read, files_read, binds_read}
 
 abbrev Planned : DeskStep → Books → PlannedChange → Type 0
 Planned step books change = IsOkAnd step (λ after. IsPlanned after books change)
@@ -45,6 +45,14 @@ paid lists compiled stamp now steps step (which.Things change) p m = subst (λ (
 paid lists compiled stamp now steps step (which.Files change) p m = subst (λ (s : DeskStep). Paid s (books_with lists compiled stamp) steps) (sym p.step_is) (files_paid (books_with lists compiled stamp) now steps p.in_book change p.planned m)
 paid lists compiled stamp now steps step (which.Binds change) p m = subst (λ (s : DeskStep). Paid s (books_with lists compiled stamp) steps) (sym p.step_is) (binds_paid (books_with lists compiled stamp) now steps p.in_book change p.planned m)
 
+abbrev Read : DeskStep → Books → ℕ → Type 0
+Read step books steps = IsOkAnd step (λ after. ReadsFor after.outcome.url books.compiled (desk_of books) after.desk steps)
+
+read : (lists : Lists) (compiled : CompiledState) (stamp : Option ℕ) (now steps : ℕ) (step : DeskStep) (change : BookChange) → IsPlanIn (desk_with lists stamp) now step lists change → IsRowsRead change lists.files.files compiled steps → Read step (books_with lists compiled stamp) steps
+read lists compiled stamp now steps step (which.Things change) p m = subst (λ (s : DeskStep). Read s (books_with lists compiled stamp) steps) (sym p.step_is) (things_read (books_with lists compiled stamp) now steps p.in_book change p.planned m)
+read lists compiled stamp now steps step (which.Files change) p m = subst (λ (s : DeskStep). Read s (books_with lists compiled stamp) steps) (sym p.step_is) (files_read (books_with lists compiled stamp) now steps p.in_book change p.planned m)
+read lists compiled stamp now steps step (which.Binds change) p m = subst (λ (s : DeskStep). Read s (books_with lists compiled stamp) steps) (sym p.step_is) (binds_read (books_with lists compiled stamp) now steps p.in_book change p.planned m)
+
 -- ---- Results
 
 pub planned_rows : (result : Result Plan Memory) (plan : Plan) (P : Plan → Type 0) → result ≡ Ok plan → IfOk result P → P plan
@@ -53,6 +61,11 @@ planned_rows result plan P is holds = let good : Result Plan Memory = Ok plan in
 pub made_change : (made : Result PlannedChange Memory) (result : Result PlannedChange Refusal) (change : PlannedChange) (P : PlannedChange → Type 0) → IfOk result (λ value. made ≡ Ok value) → IfOk made (λ value. value ≡ change) → P change → IfOk result P
 made_change made (Ok value) change P from is holds = let same : value ≡ change = subst (λ (r : Result PlannedChange Memory). IfOk r (λ v. v ≡ change)) from is in subst P (sym same) holds
 made_change made (Err refusal) change P from is holds = tt
+
+-- what holds where the rows are planned, holds wherever the change is made of them
+pub made_rows : (rows : Result Plan Memory) (plan : Plan) (made : Result PlannedChange Refusal) (P : Type 0) → rows ≡ Ok plan → OnOk rows P → OnOk made P
+made_rows rows plan (Ok change) P is holds = let good : Result Plan Memory = Ok plan in let at : OnOk good P = subst (λ (r : Result Plan Memory). OnOk r P) is holds in at
+made_rows rows plan (Err refusal) P is holds = tt
 
 -- ---- From before to after
 
@@ -79,6 +92,14 @@ module _ (old new : Lists) (compiled compiled' : CompiledState) (stamp : Option 
       let here : IsPlanIn (desk_with new stamp) now step new change = subst (λ (d : DeskTables). IsPlanIn d now step new change) (sym same) p in
       let all : Paid step (books_with new compiled stamp) steps = paid new compiled stamp now steps step change here m in
       inr (subst (λ (d : DeskTables). IsOkAnd step (λ after. PaysFor after.outcome.url compiled d after.desk steps)) same all)
+
+  pub read_after : (now steps : ℕ) (command : Command) (change : BookChange) → IsPlanIn (desk_with old stamp) now (command_step (desk_with old stamp) now command) new change → IsRowsRead change new.files.files compiled steps
+      → IsRead (command_step (desk_of (books_with old compiled stamp)) now command) (books_with old compiled stamp) steps
+  read_after now steps command change p m =
+      let step : DeskStep = command_step (desk_with old stamp) now command in
+      let here : IsPlanIn (desk_with new stamp) now step new change = subst (λ (d : DeskTables). IsPlanIn d now step new change) (sym same) p in
+      let all : Read step (books_with new compiled stamp) steps = read new compiled stamp now steps step change here m in
+      subst (λ (d : DeskTables). IsOkAnd step (λ after. ReadsFor after.outcome.url compiled d after.desk steps)) same all
 
 -- ---- A commit
 

@@ -21,7 +21,7 @@ use Rattle.desk_books.specs.CompiledDesk.{IsCompiledOf}
 use Rattle.desk_books.specs.declared.change.BookChange.{BookChange}
 use Rattle.desk_books.specs.declared.change.BookChange.TheVariants as which
 use Rattle.desk_books.specs.Books.{Books, desk_of}
-use Rattle.desk_books.specs.RowPlans.{IsPaidByBindings, IsPaidByPolicy}
+use Rattle.desk_books.specs.RowPlans.{IsPaidByBindings, IsPaidByPolicy, binding_reads, AreRead}
 use Rattle.desk_books.specs.Changes.{PlannedChange, desk_after}
 
 -- ---- What a commit needs
@@ -89,3 +89,25 @@ PaysFor (Some url) compiled before after steps = PaysForPolicy compiled url afte
 -- no step, which alone is so where the command is refused, or no more than these
 abbrev pub IsPaid : DeskStep → Books → ℕ → Type 0
 IsPaid step books steps = (steps ≡ 0) ⊎ IsOkAnd step (λ after. PaysFor after.outcome.url books.compiled (desk_of books) after.desk steps)
+
+-- ---- The steps that a plan takes at least
+
+-- those of the bindings that go and come between the desks
+pub record ReadsBindings (compiled : CompiledState) (before after : DeskTables) (steps : ℕ) : Type 0 where
+  pub gone : List Binding
+  pub come : List Binding
+  pub change : IsBindingChange (desk_bindings before) (desk_bindings after) gone come
+  pub least : binding_reads gone come compiled ≤ steps
+
+-- those of a policy that comes or goes
+abbrev pub ReadsPolicy : CompiledState → List ℕ → DeskTables → DeskTables → ℕ → Type 0
+ReadsPolicy compiled url before after steps = (policy_at before url ≡ policy_at after url) ⊎ AreRead url (policy_at after url) compiled steps
+
+-- of a command on files there is a URL
+abbrev pub ReadsFor : Option (List ℕ) → CompiledState → DeskTables → DeskTables → ℕ → Type 0
+ReadsFor None compiled before after steps = ReadsBindings compiled before after steps
+ReadsFor (Some url) compiled before after steps = ReadsPolicy compiled url before after steps
+
+-- no fewer steps than these
+abbrev pub IsRead : DeskStep → Books → ℕ → Type 0
+IsRead step books steps = IsOkAnd step (λ after. ReadsFor after.outcome.url books.compiled (desk_of books) after.desk steps)

@@ -1,5 +1,5 @@
 //! The books of the desk, with what is compiled of them.
-ghost use Rattle.std.specs.Prelude.{◌≡◌, ◌+◌, ◌-◌, ◌≤◌, false, true, Ok, Err, length, IfOk, IfErr, IsOkAnd, option_copied};
+ghost use Rattle.std.specs.Prelude.{◌≡◌, ◌+◌, ◌-◌, ◌≤◌, false, true, Ok, Err, length, IfOk, IfErr, OnOk, IsOkAnd, option_copied};
 ghost use Rattle.acl_rows.specs.View.{IsViewOf};
 ghost use Rattle.acl_changes.specs.Patch.{rows_apart};
 ghost use Rattle.acl_compile.specs.Plans.{IsKept};
@@ -10,7 +10,7 @@ ghost use Rattle.desk_model.specs.Commands.{IsAsked, command_step};
 ghost use Rattle.desk_books.specs.CompiledDesk.{IsCompiledOf};
 ghost use Rattle.desk_books.specs.Books.{AreKept, desk_in, desk_of};
 ghost use Rattle.desk_books.specs.Changes.{desk_after};
-ghost use Rattle.desk_books.specs.Planned.{IsPlanned, IsReady, IsPaid};
+ghost use Rattle.desk_books.specs.Planned.{IsPlanned, IsReady, IsPaid, IsRead};
 
 use crate::change::DeskChange;
 use crate::lists::{Lists, compiled_of};
@@ -119,6 +119,7 @@ impl DeskBooks {
         ensures ok { IfOk result (λ change. IsOkAnd (command_step (desk_of self.old) now command) (λ after. IsPlanned after self.new change)) }
         ensures err { IfErr result (λ refusal. is_want_of_memory refusal ≡ false → command_step (desk_of self.old) now command ≡ Err refusal) }
         ensures steps { IsPaid (command_step (desk_of self.old) now command) self.old (steps.new - steps.old) }
+        ensures read { OnOk result (IsRead (command_step (desk_of self.old) now command) self.old (steps.new - steps.old)) }
     {
         moment_fits(now);
         let change = self.lists.plan(command, now)?;

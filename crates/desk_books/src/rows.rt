@@ -1,7 +1,7 @@
 //! The plan of the compiled rows that a change of a book leads to.
-ghost use Rattle.std.specs.Prelude.{◌≡◌, ℕ, ◌+◌, ◌-◌, ◌≤◌, IfOk, option_copied};
+ghost use Rattle.std.specs.Prelude.{◌≡◌, ℕ, ◌+◌, ◌-◌, ◌≤◌, IfOk, OnOk, option_copied};
 ghost use Rattle.acl_compile.specs.Plans.{CanBeCounted, IsKept, IsPolicyPlan};
-ghost use Rattle.desk_books.specs.RowPlans.{IsFileRows, IsRowPlan, IsRowsPaid, IsPaidByPolicy};
+ghost use Rattle.desk_books.specs.RowPlans.{IsFileRows, IsRowPlan, IsRowsPaid, IsPaidByPolicy, IsRowsRead, IsFileRead, AreRead};
 ghost use Rattle.usage_tables.specs.Policies.{policy_change, policy_after};
 
 use crate::change::BookChange;
@@ -24,6 +24,7 @@ fn policy_rows<L: Ledger>(
     ensures kept { IsKept compiled.old compiled.new }
     ensures ok { IfOk result (IsPolicyPlan url.now (option_copied policy.entry) compiled.new) }
     ensures steps { IsPaidByPolicy url.now (option_copied policy.entry) compiled.old (steps.new - steps.old) }
+    ensures read { OnOk result (AreRead url.now (option_copied policy.entry) compiled.old (steps.new - steps.old)) }
 {
     if !compiled.has_slot(url) {
         return Err(Memory);
@@ -32,7 +33,7 @@ fn policy_rows<L: Ledger>(
 }
 
 /// Plans the rows of a change of files, which aren't committed yet.
-#[tactic(auto, using(crate::proofs::FileRows::candidates_count, crate::proofs::FileRows::comes_rows, crate::proofs::FileRows::comes_paid, crate::proofs::FileRows::goes_rows, crate::proofs::FileRows::goes_paid, crate::proofs::FileRows::none_paid))]
+#[tactic(auto, using(crate::proofs::FileRows::candidates_count, crate::proofs::FileRows::comes_rows, crate::proofs::FileRows::comes_paid, crate::proofs::FileRows::goes_rows, crate::proofs::FileRows::goes_paid, crate::proofs::FileRows::none_paid, crate::proofs::FileRows::goes_read, crate::proofs::FileRows::stays_read))]
 fn file_rows<L: Ledger>(
     files: &FileCache,
     compiled: &mut Compiled,
@@ -42,6 +43,7 @@ fn file_rows<L: Ledger>(
     ensures kept { IsKept compiled.old compiled.new }
     ensures ok { IfOk result (IsFileRows (policy_change change.now.edit) change.now.url files.now.files compiled.new) }
     ensures steps { IsPaidByPolicy change.now.url (policy_after (policy_change change.now.edit) files.now.files change.now.url) compiled.old (steps.new - steps.old) }
+    ensures read { OnOk result (IsFileRead (policy_change change.now.edit) change.now.url files.now.files compiled.old (steps.new - steps.old)) }
 {
     let url = change.url();
     match change.policy() {
@@ -61,6 +63,7 @@ pub(crate) fn row_plan<L: Ledger>(
     ensures kept { IsKept compiled.old compiled.new }
     ensures ok { IfOk result (IsRowPlan change.now files.now.files compiled.new) }
     ensures steps { IsRowsPaid change.now files.now.files compiled.old (steps.new - steps.old) }
+    ensures read { OnOk result (IsRowsRead change.now files.now.files compiled.old (steps.new - steps.old)) }
 {
     match change {
         BookChange::Things(change) => compiled.plan_member(change.gone(), change.come(), steps),

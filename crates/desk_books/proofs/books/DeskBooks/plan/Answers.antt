@@ -1,12 +1,13 @@
 use Rattle.std.proofs.Common.{ℕ, ◌-◌, Option, ap, subst, ◌∙◌}
 use Rattle.std.specs.Prelude.{IsOkAnd}
+use Rattle.std.proofs.lemmas.Result.{on_ok_weaker}
 use Rattle.desk_model.specs.Commands.{DeskAfter, command_step}
 use Rattle.desk_books.specs.declared.lists.Lists.{Lists}
 use Rattle.desk_books.specs.Books.{Books, desk_of, books_with}
 use Rattle.desk_books.specs.Changes.{PlannedChange, change_of}
-use Rattle.desk_books.specs.Planned.{IsPlanned, IsPaid}
-use Rattle.desk_books.specs.RowPlans.{IsRowPlan}
-use Rattle.desk_books.proofs.Whole.{kept_itself, kept_after, planned_after, paid_after, planned_rows, made_change}
+use Rattle.desk_books.specs.Planned.{IsPlanned, IsPaid, IsRead}
+use Rattle.desk_books.specs.RowPlans.{IsRowPlan, IsRowsRead}
+use Rattle.desk_books.proofs.Whole.{kept_itself, kept_after, planned_after, paid_after, read_after, planned_rows, made_rows, made_change}
 use Rattle.desk_books.proofs.books.DeskBooks.plan.Goals as goal
 
 pub invariant_of-self : goal.invariant_of-self
@@ -66,3 +67,15 @@ returns-clause-steps g c =
     let steps : ℕ = c.row_plan-rows.new.steps - c.args.steps.now in
     subst (λ (b : Books). IsPaid (command_step (desk_of b) c.args.now c.args.command) b steps) c.self.view_is
     (paid_after old new c.self.inside.compiled c.row_plan-rows.new.compiled stamp (c.plan.ensures.same stamp) c.row_plan-rows.ensures.kept c.args.now steps c.args.command c.in_ok-change.change (c.in_ok-change.ensures.planned stamp) c.row_plan-rows.ensures.steps)
+
+pub returns-clause-read : goal.returns-clause-read
+returns-clause-read g c =
+    let old : Lists = c.self.inside.lists in
+    let new : Lists = c.plan.new.self in
+    let stamp : Option ℕ = c.self.inside.stamp in
+    let steps : ℕ = c.row_plan-rows.new.steps - c.args.steps.now in
+    on_ok_weaker c.or_memory-2.result
+    (λ (rows : IsRowsRead c.in_ok-change.change new.files.files c.self.inside.compiled steps).
+    subst (λ (b : Books). IsRead (command_step (desk_of b) c.args.now c.args.command) b steps) c.self.view_is
+    (read_after old new c.self.inside.compiled c.row_plan-rows.new.compiled stamp (c.plan.ensures.same stamp) c.row_plan-rows.ensures.kept c.args.now steps c.args.command c.in_ok-change.change (c.in_ok-change.ensures.planned stamp) rows))
+    (made_rows c.row_plan-rows.result c.in-Ok.rows c.or_memory-2.result (IsRowsRead c.in_ok-change.change new.files.files c.self.inside.compiled steps) c.in-Ok.ensures.ok c.row_plan-rows.ensures.read)

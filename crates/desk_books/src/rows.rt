@@ -1,5 +1,5 @@
 //! The plan of the compiled rows that a change of a book leads to.
-ghost use Rattle.std.specs.Prelude.{◌≡◌, ℕ, ◌+◌, ◌-◌, ◌≤◌, IfOk, OnOk, option_copied};
+ghost use Rattle.std.specs.Prelude.{◌-◌, IfOk, OnOk, option_copied};
 ghost use Rattle.acl_compile.specs.Plans.{CanBeCounted, IsKept, IsPolicyPlan};
 ghost use Rattle.desk_books.specs.RowPlans.{IsFileRows, IsRowPlan, IsRowsPaid, IsPaidByPolicy, IsRowsRead, IsFileRead, AreRead};
 ghost use Rattle.usage_tables.specs.Policies.{policy_change, policy_after};

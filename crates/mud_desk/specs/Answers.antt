@@ -15,7 +15,7 @@ use Rattle.mud_desk.specs.Items.Opening.{IsPartlyAnew}
 use Rattle.mud_world.specs.declared.item.Item.{Item}
 use Rattle.desk_model.specs.Keeping.{KeepsSame}
 use Rattle.desk_books.specs.Books.{Books, desk_of}
-use Rattle.desk_books.specs.Planned.{IsPaid}
+use Rattle.desk_books.specs.Planned.{IsPaid, IsRead}
 
 -- the policies, bindings and rows are as before, but where the command was carried out
 abbrev pub StaysUnlessDone : Reply → CompiledState → CompiledState → Type 0
@@ -51,3 +51,10 @@ pub record IsPaidOnce (step : DeskStep) (before after : Books) (begun ended : �
   pub most : ended ≤ begun + (planned + committed)
   pub plan : IsPaid step before planned
   pub commit : (committed ≡ 0) ⊎ PaysForCommit before after committed
+
+-- a command that is done takes no fewer steps than its plan reads
+abbrev pub IsReadOnce : Reply → DeskStep → Books → ℕ → Type 0
+IsReadOnce (Done outcome) step before steps = IsRead step before steps
+IsReadOnce (Refused refusal) step before steps = Unit {0}
+IsReadOnce Keeper step before steps = Unit {0}
+IsReadOnce Memory step before steps = Unit {0}

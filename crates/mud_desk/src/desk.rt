@@ -20,7 +20,7 @@ ghost use Rattle.mud_desk.specs.Findings.{AreFindingsOn};
 ghost use Rattle.mud_desk.specs.DeskState.{tables_of, session_of, AreRulesOf};
 ghost use Rattle.desk_model.specs.Kept.{IsKept};
 ghost use Rattle.mud_desk.specs.Stays.{StaysKept};
-ghost use Rattle.mud_desk.specs.Answers.{is_fault_of_keeper, StaysUnlessDone, IsLeft, IsPaidOnce};
+ghost use Rattle.mud_desk.specs.Answers.{is_fault_of_keeper, StaysUnlessDone, IsLeft, IsPaidOnce, IsReadOnce};
 
 use crate::Findings;
 use crate::items::{Loaded, OpenFault, open_items};
@@ -143,6 +143,7 @@ impl<K: Keeper> Desk<K> {
         ensures compiled { StaysUnlessDone result self.old.state.books.compiled self.new.state.books.compiled }
         ensures cause { Counts (is_of_keeper result) (faults_of ⟦<K as Keeper>⟧ self.old.keeper) (faults_of ⟦<K as Keeper>⟧ self.new.keeper) }
         ensures steps { IsPaidOnce (command_step (tables_of self.old.state) (max self.old.state.moment now) command) self.old.state.books self.new.state.books steps.old steps.new }
+        ensures least { IsReadOnce result (command_step (tables_of self.old.state) (max self.old.state.moment now) command) self.old.state.books (steps.new - steps.old) }
     {
         command_fits(&command);
         let now = later(self.state.moment(), now);

@@ -1,5 +1,5 @@
 //! All that the desk holds beside its keeper.
-ghost use Rattle.std.specs.Prelude.{◌≡◌, ℕ, ◌+◌, ◌-◌, ◌^◌, ◌<◌, ◌≤◌, max, false, List, Err, IsTrue, IfOk, IfErr, IsOkAnd, length};
+ghost use Rattle.std.specs.Prelude.{◌≡◌, ℕ, ◌+◌, ◌-◌, ◌^◌, ◌<◌, ◌≤◌, max, false, List, Err, IsTrue, IfOk, IfErr, OnOk, IsOkAnd, length};
 ghost use Rattle.std.specs.Prelude.{unwrap_or};
 ghost use Rattle.base_rows.specs.Ledgers.{IsBlankOf};
 ghost use Rattle.acl_changes.specs.Patch.{rows_apart};
@@ -18,7 +18,7 @@ ghost use Rattle.mud_desk.specs.Items.Loaded.{loaded_desk};
 ghost use Rattle.mud_desk.specs.RuleInputs.{AreRuleInputsOf, rule_inputs, rows_read, ruling_steps};
 ghost use Rattle.mud_desk.specs.Findings.{AreFindingsOn};
 ghost use Rattle.desk_books.specs.Changes.{desk_after};
-ghost use Rattle.desk_books.specs.Planned.{IsPlanned, IsReady, IsPaid};
+ghost use Rattle.desk_books.specs.Planned.{IsPlanned, IsReady, IsPaid, IsRead};
 ghost use Rattle.mud_desk.specs.DeskState.{tables_of, session_of};
 
 use crate::desk_rules::DeskRules;
@@ -127,6 +127,7 @@ impl State {
         ensures ok { IfOk result (λ change. IsOkAnd (command_step (tables_of self.old) now command) (λ after. IsPlanned after self.new.books change)) }
         ensures err { IfErr result (λ refusal. is_want_of_memory refusal ≡ false → command_step (tables_of self.old) now command ≡ Err refusal) }
         ensures steps { IsPaid (command_step (tables_of self.old) now command) self.old.books (steps.new - steps.old) }
+        ensures read { OnOk result (IsRead (command_step (tables_of self.old) now command) self.old.books (steps.new - steps.old)) }
         ensures sound { IsSound (tables_of self.old) }
     {
         let _sound = self.books.compiled();

@@ -1,4 +1,4 @@
-use Rattle.std.proofs.Common.{◌≡◌, ◌≢◌, [], List, refl, sym, subst, ap, ◌∙◌}
+use Rattle.std.proofs.Common.{◌≡◌, ◌≢◌, ◌-◌, [], List, refl, sym, subst, ap, ◌∙◌, arith}
 use Rattle.std.specs.Prelude.{max}
 use Rattle.mud_world.specs.declared.item.Put.{Put}
 use Rattle.mud_world.specs.Causes.{Counts}
@@ -9,11 +9,13 @@ use Rattle.desk_model.specs.declared.reply.Reply.{Reply}
 use Rattle.desk_model.specs.declared.reply.Reply.TheVariants.{Done}
 use Rattle.desk_model.specs.Items.{items_of}
 use Rattle.desk_model.specs.Sessions.{AllowedReply, is_of_keeper}
+use Rattle.desk_model.specs.Commands.{command_step}
+use Rattle.mud_desk.specs.Answers.{IsReadOnce}
 use Rattle.mud_desk.specs.DeskState.{tables_of, session_of}
 use Rattle.mud_desk.proofs.Sessions.{reaches, done, refused, failed, wanted, never_of_keeper}
 use Rattle.mud_desk.proofs.Keepers.{kept_after}
 use Rattle.mud_desk.proofs.Stays.{stays_untold, stays_unput}
-use Rattle.mud_desk.proofs.Payments.{paid, planned_only, undone}
+use Rattle.mud_desk.proofs.Payments.{paid, planned_only, undone, read_done, unread}
 use Rattle.mud_desk.proofs.desk.Desk.command.Goals as goal
 
 pub returns-in-Err-clause-answer : goal.returns-in-Err-clause-answer
@@ -97,3 +99,15 @@ returns-clause-steps g c =
     let is : c.later-now.result ≡ max before.moment c.args.now = c.later-now.ensures ∙ ap (λ m. max m c.args.now) c.moment.ensures in
     paid before c.plan.new.self c.args.command c.later-now.result c.args.now is c.in-Ok.ensures.same c.in-Ok.ensures.compiled.rows c.commit.new.self c.in-Ok.change c.in-Ok.ensures.ok c.commit.ensures.desk
     c.args.steps.now c.plan.new.steps c.commit.new.steps c.in-Ok.ensures.steps c.commit.ensures.counted c.commit.ensures.most
+
+pub returns-in-Err-clause-least : goal.returns-in-Err-clause-least
+returns-in-Err-clause-least g c =
+    let before = c.args.self.now.state in
+    let step = command_step (tables_of before) (max before.moment c.args.now) c.args.command in
+    subst (λ (r : Reply). IsReadOnce r step before.books (c.plan.new.steps - c.args.steps.now)) (sym c.into_reply.ensures) (unread c.in-Err.refusal step before.books (c.plan.new.steps - c.args.steps.now))
+
+pub returns-clause-least : goal.returns-clause-least
+returns-clause-least g c =
+    let before = c.args.self.now.state in
+    let is : c.later-now.result ≡ max before.moment c.args.now = c.later-now.ensures ∙ ap (λ m. max m c.args.now) c.moment.ensures in
+    read_done c.args.command before.books (tables_of before) c.later-now.result (max before.moment c.args.now) is c.args.steps.now c.plan.new.steps c.commit.new.steps (omega (arith, c.commit.ensures.counted)) c.in-Ok.ensures.read

@@ -10,6 +10,7 @@ use Rattle.table_model.specs.declared.segment.Segment.{Segment}
 use Rattle.flow_table.specs.Kept.{StandsFor, is_since, beginner_kept, kept_after}
 use Rattle.flow_table.specs.Keys.{Key, key_cmp, key_of}
 use Rattle.flow_table.specs.Held.{Held, with_newest, slot_at, filled, slot_first, held_at, held_between, flows_of, IsNoted, BeginsInTime, IsSound, is_of_generation, AreOfGeneration, HoldsAll, IsWritten, held_of}
+use Rattle.flow_table.specs.Slots.{IsPut}
 use Rattle.flow_table.proofs.KeyLaws.{at_same, at_itself, at_turned, between_at}
 use Rattle.flow_table.proofs.Histories.{MayForget, HasNoted, and_both, any_push, nothing_stands, noted_stands}
 
@@ -105,39 +106,35 @@ flows_same : (t u : Held) → u.last ≡ t.last → ((q : Key) → held_at u q �
 unfolding flows_of held_between
 flows_same t u e h = λ i. record { last = e i; kept = λ a b. h (key_of a b) i }
 
--- the value v at k, where it had another or none
-abbrev pub Puts : Key → Option Begun → Slots → Slots → Type 0
-Puts k v before after = (q : Key) → slot_at after q ≡ cond (is_at (key_cmp k) q) (Some v) (slot_at before q)
-
-puts_first : (k : Key) (v : Option Begun) (slots : Slots) → Puts k v slots ((k, v) ∷ slots)
+puts_first : (k : Key) (v : Option Begun) (slots : Slots) → IsPut k v slots ((k, v) ∷ slots)
 unfolding slot_at
 puts_first k v slots q = ap (λ b. cond b (Some v) (slot_at slots q)) (at_turned k q)
 
 -- the slot that stood apart is in the younger generation
-slots_alike : (k : Key) (v : Option Begun) (before after : Slots) → Puts k v before after → (q : Key) → slot_at after q ≡ slot_at (with_newest (Some (k, v)) before) q
+slots_alike : (k : Key) (v : Option Begun) (before after : Slots) → IsPut k v before after → (q : Key) → slot_at after q ≡ slot_at (with_newest (Some (k, v)) before) q
 unfolding with_newest
 slots_alike k v before after u q = u q ∙ sym (puts_first k v before q)
 
-room_same : (last : Option ℕ) (since : ℕ) (newest : Option (Key × Option Begun)) (younger after elder : Slots) (k : Key) (v : Option Begun) → newest ≡ Some (k, v) → Puts k v younger after → flows_of (held_of last since None after elder) ≡ flows_of (held_of last since newest younger elder)
+room_same : (last : Option ℕ) (since : ℕ) (newest : Option (Key × Option Begun)) (younger after elder : Slots) (k : Key) (v : Option Begun) → newest ≡ Some (k, v) → IsPut k v younger after → flows_of (held_of last since None after elder) ≡ flows_of (held_of last since newest younger elder)
 unfolding held_at with_newest
 room_same last since newest younger after elder k v e u =
     let P : Option (Key × Option Begun) → Type 0 = λ o. flows_of (held_of last since None after elder) ≡ flows_of (held_of last since o younger elder) in
     subst P (sym e) (flows_same (held_of last since (Some (k, v)) younger elder) (held_of last since None after elder) refl (λ q. ap (λ y. slot_first y (slot_at elder q)) (slots_alike k v younger after u q)))
 
-room_sound : (last : Option ℕ) (since : ℕ) (newest : Option (Key × Option Begun)) (younger after elder : Slots) (k : Key) (v : Option Begun) → IsSound (held_of last since newest younger elder) → newest ≡ Some (k, v) → Puts k v younger after → IsSound (held_of last since None after elder)
+room_sound : (last : Option ℕ) (since : ℕ) (newest : Option (Key × Option Begun)) (younger after elder : Slots) (k : Key) (v : Option Begun) → IsSound (held_of last since newest younger elder) → newest ≡ Some (k, v) → IsPut k v younger after → IsSound (held_of last since None after elder)
 unfolding slot_at with_newest
 room_sound last since newest younger after elder k v s e u =
     let S : Option (Key × Option Begun) → Type 0 = λ o. IsSound (held_of last since o younger elder) in
     let sound : IsSound (held_of last since (Some (k, v)) younger elder) = subst S e s in
     record { begun = sound.begun; elder = sound.elder; noted = sound.noted; younger = λ q begun h. sound.younger q begun (sym (slots_alike k v younger after u q) ∙ h) }
 
-room_recent : (history : List Segment) (since : ℕ) (newest : Option (Key × Option Begun)) (younger after : Slots) (k : Key) (v : Option Begun) → AreOfGeneration history since (with_newest newest younger) → newest ≡ Some (k, v) → Puts k v younger after → AreOfGeneration history since after
+room_recent : (history : List Segment) (since : ℕ) (newest : Option (Key × Option Begun)) (younger after : Slots) (k : Key) (v : Option Begun) → AreOfGeneration history since (with_newest newest younger) → newest ≡ Some (k, v) → IsPut k v younger after → AreOfGeneration history since after
 room_recent history since newest younger after k v are e u q h =
     let S : Option (Key × Option Begun) → Type 0 = λ o. AreOfGeneration history since (with_newest o younger) in
     let apart : AreOfGeneration history since (with_newest (Some (k, v)) younger) = subst S e are in
     apart q (subst (λ (o : Option (Option Begun)). IsSome o) (slots_alike k v younger after u q) h)
 
-pub room_holds : (history : List Segment) (last : Option ℕ) (since : ℕ) (newest : Option (Key × Option Begun)) (younger after elder : Slots) (k : Key) (v : Option Begun) → HoldsAll history (held_of last since newest younger elder) → newest ≡ Some (k, v) → Puts k v younger after → HoldsAll history (held_of last since None after elder)
+pub room_holds : (history : List Segment) (last : Option ℕ) (since : ℕ) (newest : Option (Key × Option Begun)) (younger after elder : Slots) (k : Key) (v : Option Begun) → HoldsAll history (held_of last since newest younger elder) → newest ≡ Some (k, v) → IsPut k v younger after → HoldsAll history (held_of last since None after elder)
 unfolding with_newest
 room_holds history last since newest younger after elder k v holds e u = record {
   sound = room_sound last since newest younger after elder k v holds.sound e u;
@@ -374,7 +371,7 @@ since_by_last history held now holds = ap (λ last. is_since last now) holds.sta
 
 -- ---- Writing into a slot
 
-pub written_by : (k : Key) (p : Segment) (before after : Slots) (old w : Option Begun) → Some old ≡ slot_at before k → w ≡ kept_after p old → Puts k w before after → IsWritten k p before after
+pub written_by : (k : Key) (p : Segment) (before after : Slots) (old w : Option Begun) → Some old ≡ slot_at before k → w ≡ kept_after p old → IsPut k w before after → IsWritten k p before after
 written_by k p before after old w e f u = record {
   here = λ begun h. u k ∙ ap (λ b. cond b (Some w) (slot_at before k)) (at_itself k) ∙ ap (λ v. Some v) (f ∙ ap (kept_after p) (inner_same old begun (e ∙ h)));
   others = λ q c. u q ∙ ap (λ b. cond b (Some w) (slot_at before q)) c;

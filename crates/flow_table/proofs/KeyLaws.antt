@@ -16,12 +16,12 @@ use Rattle.flow_table.proofs.PairLaws.{both_parts, then_equal, between_same, sam
 
 -- ---- Keys that compare as equal are one key
 
-is_equal : (o : Ordering) → is_eq o ≡ true → o ≡ Equal
+pub is_equal : (o : Ordering) → is_eq o ≡ true → o ≡ Equal
 is_equal Less e = cc
 is_equal Equal e = refl
 is_equal Greater e = cc
 
-same_number : (n k : ℕ) → nat_cmp n k ≡ Equal → n ≡ k
+pub same_number : (n k : ℕ) → nat_cmp n k ≡ Equal → n ≡ k
 same_number n k e = ranked n k Equal (sym e)
 
 same_bool : (a b : Bool) → bool_cmp a b ≡ Equal → a ≡ b
@@ -48,14 +48,14 @@ key_tie k l e =
       second = same_number k.second l.second first.1 i;
     }
 
-number_itself : (n : ℕ) → nat_cmp n n ≡ Equal
+pub number_itself : (n : ℕ) → nat_cmp n n ≡ Equal
 number_itself n = tied_itself nat_cmp_total n
 
 bool_itself : (b : Bool) → bool_cmp b b ≡ Equal
 bool_itself false = refl
 bool_itself true = refl
 
-equal_then : (o r : Ordering) → o ≡ Equal → r ≡ Equal → ordering_then o r ≡ Equal
+pub equal_then : (o r : Ordering) → o ≡ Equal → r ≡ Equal → ordering_then o r ≡ Equal
 equal_then o r e f = ap (λ o. ordering_then o r) e ∙ f
 
 key_itself : (k : Key) → key_cmp k k ≡ Equal

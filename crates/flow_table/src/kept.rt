@@ -24,7 +24,7 @@ pub(crate) fn beginner_kept(kept: Option<Begun>, now: Moment) -> Option<Endpoint
 
 /// Whether a connection whose last packet was at this moment is kept at a later one: that was no more
 /// than [`MOST_PAUSE`] seconds ago.
-fn is_kept(at: Moment, now: Moment) -> bool
+pub(crate) fn is_kept(at: Moment, now: Moment) -> bool
     ensures { result ≡ nat_le (now - at) most.pause }
 {
     now.seconds().saturating_sub(at.seconds()) <= MOST_PAUSE
@@ -43,7 +43,7 @@ pub(crate) fn kept_after(packet: &Segment, kept: Option<Begun>) -> Option<Begun>
 /// packet that opens begins the connection anew, one that resets ends it, and each other one keeps it
 /// up, for which the moment alone is written.
 #[tactic(auto, unfolding(crate::specs::Kept::kept_after, crate::specs::Kept::beginner_kept, table_model::specs::History::with_moment))]
-pub(crate) fn keep_up(kept: &mut Option<Begun>, packet: &Segment)
+fn keep_up(kept: &mut Option<Begun>, packet: &Segment)
     ensures { kept.new ≡ spec.kept_after packet.now kept.old }
 {
     if packet.opens() {

@@ -5,9 +5,10 @@ pub mod kept;
 pub mod key;
 mod log;
 pub mod pairs;
+mod slots;
 pub mod table;
 
 pub use kept::Begun;
-pub use key::Key;
+pub use key::{Key, ShortKey};
 pub use pairs::Pair;
 pub use table::{FlowPlan, FlowTable};

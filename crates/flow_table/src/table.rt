@@ -1,17 +1,17 @@
 //! The table of the connections that forwarded packets made.
-ghost use Rattle.std.specs.Prelude.{◌≡◌, ◌++◌, ◌∷◌, [], true, false, IsTrue, IfOk, OnOk, IsSome, Some, None};
+ghost use Rattle.std.specs.Prelude.{◌≡◌, ◌++◌, ◌∷◌, [], true, IsTrue, IfOk, OnOk, IsSome, Some, None};
 ghost use Rattle.table_model.specs.History.{begun_of, segment_of as spec_segment_of};
 ghost use Rattle.flow_table.specs.Noted.{follows, segment_planned, IsPlanned};
-ghost use Rattle.flow_table.specs.Held.{slot_at, slot_first, filled, with_newest, IsWritten};
+ghost use Rattle.flow_table.specs.Held.{slot_at, slot_first, filled, with_newest};
 
-use crate::kept::{Begun, beginner_kept, keep_up, kept_after};
+use crate::kept::{Begun, beginner_kept, kept_after};
 use crate::key::Key;
 use crate::log::Log;
 use crate::pairs::key_of;
+use crate::slots::Slots;
 use mud_base::{Direction, Fields, Memory, Moment};
 use std::alloc::Global;
 use std::cmp::Ordering;
-use std::collections::BTreeMap;
 use std::marker::Model;
 use std::mem::replace;
 use table_model::Segment;
@@ -37,8 +37,8 @@ pub struct FlowTable {
     since: u64,
     /// The connection of the last packet, where the younger generation has no slot for it yet.
     newest: Option<(Key, Option<Begun>)>,
-    younger: BTreeMap<Key, Option<Begun>>,
-    elder: BTreeMap<Key, Option<Begun>>,
+    younger: Slots,
+    elder: Slots,
     /// All packets that were noted.
     history: Log<Segment>,
 }
@@ -66,7 +66,7 @@ impl Model for FlowTable {
 
     ghost view = { λ t. record { history = t.history.items; has_room = is_none t.newest } };
 
-    ghost invariant = { λ t. HoldsAll t.history.items (held_of t.last t.since t.newest t.younger.entries t.elder.entries) };
+    ghost invariant = { λ t. HoldsAll t.history.items (held_of t.last t.since t.newest t.younger t.elder) };
 }
 
 /// A packet that the table has room for.
@@ -85,8 +85,8 @@ impl FlowTable {
             last: None,
             since: 0,
             newest: None,
-            younger: BTreeMap::new(alloc),
-            elder: BTreeMap::new(alloc),
+            younger: Slots::new(alloc),
+            elder: Slots::new(alloc),
             history: Log::new(),
         }
     }
@@ -145,7 +145,7 @@ impl FlowTable {
         let Some((key, begun)) = self.newest else {
             return Ok(());
         };
-        self.younger.insert(key, begun)?;
+        self.younger.put(key, begun)?;
         self.newest = None;
         Ok(())
     }
@@ -162,11 +162,11 @@ impl FlowTable {
         self.history = self.history.and(&packet);
         if now.saturating_sub(self.since) > MOST_PAUSE {
             let kept = kept_first(&self.younger, &self.elder, &key);
-            self.elder = replace(&mut self.younger, BTreeMap::new(self.alloc));
+            self.elder = replace(&mut self.younger, Slots::new(self.alloc));
             self.since = now;
             let begun = kept_after(&packet, kept);
             self.newest = Some((key, begun));
-        } else if !write_slot(&mut self.younger, &key, &packet) {
+        } else if !self.younger.write(&key, &packet) {
             let before = kept_in(&self.elder, &key);
             let noted = kept_after(&packet, before);
             self.newest = Some((key, noted));
@@ -193,11 +193,11 @@ fn apart(newest: &Option<(Key, Option<Begun>)>, key: &Key) -> Option<Option<Begu
 #[tactic(auto, unfolding(crate::specs::Held::held_at))]
 fn held(
     newest: &Option<(Key, Option<Begun>)>,
-    younger: &BTreeMap<Key, Option<Begun>>,
-    elder: &BTreeMap<Key, Option<Begun>>,
+    younger: &Slots,
+    elder: &Slots,
     key: &Key,
 ) -> Option<Begun>
-    ensures { result ≡ slot_first (slot_at (with_newest newest.now younger.now.entries) key.now) (slot_at elder.now.entries key.now) }
+    ensures { result ≡ slot_first (slot_at (with_newest newest.now younger.now) key.now) (slot_at elder.now key.now) }
 {
     match apart(newest, key) {
         Some(begun) => begun,
@@ -206,42 +206,21 @@ fn held(
 }
 
 /// What two generations have of two endpoints: what the younger one has, and else the elder one.
-fn kept_first(
-    younger: &BTreeMap<Key, Option<Begun>>,
-    elder: &BTreeMap<Key, Option<Begun>>,
-    key: &Key,
-) -> Option<Begun>
-    ensures { result ≡ slot_first (slot_at younger.now.entries key.now) (slot_at elder.now.entries key.now) }
+fn kept_first(younger: &Slots, elder: &Slots, key: &Key) -> Option<Begun>
+    ensures { result ≡ slot_first (slot_at younger.now key.now) (slot_at elder.now key.now) }
 {
     match younger.get(key) {
-        Some(begun) => *begun,
+        Some(begun) => begun,
         None => kept_in(elder, key),
     }
 }
 
 /// What a generation has of two endpoints.
-fn kept_in(slots: &BTreeMap<Key, Option<Begun>>, key: &Key) -> Option<Begun>
-    ensures { result ≡ filled (slot_at slots.now.entries key.now) }
+fn kept_in(slots: &Slots, key: &Key) -> Option<Begun>
+    ensures { result ≡ filled (slot_at slots.now key.now) }
 {
     match slots.get(key) {
-        Some(begun) => *begun,
+        Some(begun) => begun,
         None => None,
-    }
-}
-
-/// Writes what is kept after a packet into the slot of its endpoints, and answers whether there is
-/// one.
-fn write_slot(slots: &mut BTreeMap<Key, Option<Begun>>, key: &Key, packet: &Segment) -> bool
-    ensures there { result ≡ true → IsSome (slot_at slots.old.entries key.now) }
-    ensures written { result ≡ true → IsWritten key.now packet.now slots.old.entries slots.new.entries }
-    ensures absent { result ≡ false → slot_at slots.old.entries key.now ≡ None }
-    ensures same { result ≡ false → slots.new.entries ≡ slots.old.entries }
-{
-    match slots.get_mut(key) {
-        Some(slot) => {
-            keep_up(slot, packet);
-            true
-        }
-        None => false,
     }
 }

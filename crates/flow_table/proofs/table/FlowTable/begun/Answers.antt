@@ -16,7 +16,7 @@ returns-then-opens c = c.side_of.ensures ∙ begun_opens _ _ _ _ c.in-Some.packe
 pub returns : goal.returns
 unfolding flows_of held_between held_at
 returns c =
-    let held = held_of c.self.inside.last c.self.inside.since c.self.inside.newest c.self.inside.younger.entries c.self.inside.elder.entries in
+    let held = held_of c.self.inside.last c.self.inside.since c.self.inside.newest c.self.inside.younger c.self.inside.elder in
     let packet = c.in-Some.packet in
     let since = subst (λ (noted : Noted). IsTrue (follows noted.history c.args.now)) (sym c.self.view_is) c.requires in
     rw (← c.self.view_is)

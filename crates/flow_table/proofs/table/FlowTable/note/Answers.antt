@@ -20,8 +20,8 @@ invariant_of-self c =
     let last = c.self.inside.last in
     let since = c.self.inside.since in
     let newest = c.self.inside.newest in
-    let younger = c.self.inside.younger.entries in
-    let elder = c.self.inside.elder.entries in
+    let younger = c.self.inside.younger in
+    let elder = c.self.inside.elder in
     let before : Held = held_of last since newest younger elder in
     let history = c.self.inside.history.items in
     let packet = c.args.plan.packet in
@@ -31,27 +31,27 @@ invariant_of-self c =
     let kept = c.kept_after-begun.ensures ∙ ap (kept_after packet) c.kept_first-kept.ensures in
     rw (c.seconds-now.ensures.value, c.replace.ensures.value, c.replace.ensures.after)
     (noted_holds history _ packet before _ c.self.invariant after
-    (late_sound last since newest younger elder _ c.key_of-key.result packet _ c.self.invariant.sound (last_since history before packet.at c.self.invariant after) room c.new.ensures.empty kept)
-    (late_noted last since newest younger elder _ c.key_of-key.result packet _ c.self.invariant.sound late room c.new.ensures.empty c.key_of-key.ensures kept)
-    (late_recent history last since newest younger elder _ c.key_of-key.result packet _ room c.new.ensures.empty c.key_of-key.ensures kept)
+    (late_sound last since newest younger elder _ c.key_of-key.result packet _ c.self.invariant.sound (last_since history before packet.at c.self.invariant after) room c.new.ensures kept)
+    (late_noted last since newest younger elder _ c.key_of-key.result packet _ c.self.invariant.sound late room c.new.ensures c.key_of-key.ensures kept)
+    (late_recent history last since newest younger elder _ c.key_of-key.result packet _ room c.new.ensures c.key_of-key.ensures kept)
     (late_elder history since newest younger packet room c.self.invariant.recent)
     c.and-self-inside.ensures)
 
-pub invariant_of-self-else-not-write_slot : goal.invariant_of-self-else-not-write_slot
+pub invariant_of-self-else-not-write : goal.invariant_of-self-else-not-write
 unfolding segment_planned
-invariant_of-self-else-not-write_slot c =
+invariant_of-self-else-not-write c =
     let last = c.self.inside.last in
     let since = c.self.inside.since in
     let newest = c.self.inside.newest in
-    let younger = c.self.inside.younger.entries in
-    let elder = c.self.inside.elder.entries in
+    let younger = c.self.inside.younger in
+    let elder = c.self.inside.elder in
     let before : Held = held_of last since newest younger elder in
     let history = c.self.inside.history.items in
     let packet = c.args.plan.packet in
     let room = room_inside _ _ _ c.self.view_is c.requires in
     let after = since_inside _ _ _ c.self.view_is c.requires in
     let near : packet.at ≤ since + 7440 = omega arith in
-    let writes = writes_slot last since newest younger _ elder c.key_of-key.result packet room (c.write_slot.ensures.there c.if-not-write_slot.false) (c.write_slot.ensures.written c.if-not-write_slot.false) in
+    let writes = writes_slot last since newest younger _ elder c.key_of-key.result packet room (c.write.ensures.there c.if-not-write.false) (c.write.ensures.written c.if-not-write.false) in
     noted_holds history _ packet before _ c.self.invariant after
     (kept_on_sound before _ _ c.key_of-key.result packet c.self.invariant.sound (last_since history before packet.at c.self.invariant after) near writes)
     (kept_on_noted before _ _ c.key_of-key.result packet c.key_of-key.ensures writes)
@@ -59,21 +59,21 @@ invariant_of-self-else-not-write_slot c =
     (elder_stays history packet elder c.self.invariant.elder)
     c.and-self-inside.ensures
 
-pub invariant_of-self-then-not-write_slot : goal.invariant_of-self-then-not-write_slot
+pub invariant_of-self-then-not-write : goal.invariant_of-self-then-not-write
 unfolding segment_planned
-invariant_of-self-then-not-write_slot c =
+invariant_of-self-then-not-write c =
     let last = c.self.inside.last in
     let since = c.self.inside.since in
     let newest = c.self.inside.newest in
-    let younger = c.self.inside.younger.entries in
-    let elder = c.self.inside.elder.entries in
+    let younger = c.self.inside.younger in
+    let elder = c.self.inside.elder in
     let before : Held = held_of last since newest younger elder in
     let history = c.self.inside.history.items in
     let packet = c.args.plan.packet in
     let room = room_inside _ _ _ c.self.view_is c.requires in
     let after = since_inside _ _ _ c.self.view_is c.requires in
     let near : packet.at ≤ since + 7440 = omega arith in
-    let writes = writes_apart last since newest younger _ elder c.key_of-key.result packet _ room (c.write_slot.ensures.absent c.if-not-write_slot.true) (c.write_slot.ensures.same c.if-not-write_slot.true) (c.kept_after-noted.ensures ∙ ap (kept_after packet) c.kept_in-before.ensures) in
+    let writes = writes_apart last since newest younger _ elder c.key_of-key.result packet _ room (c.write.ensures.absent c.if-not-write.true) (c.write.ensures.same c.if-not-write.true) (c.kept_after-noted.ensures ∙ ap (kept_after packet) c.kept_in-before.ensures) in
     noted_holds history _ packet before _ c.self.invariant after
     (kept_on_sound before _ _ c.key_of-key.result packet c.self.invariant.sound (last_since history before packet.at c.self.invariant after) near writes)
     (kept_on_noted before _ _ c.key_of-key.result packet c.key_of-key.ensures writes)
@@ -85,10 +85,10 @@ pub returns-then-saturating_sub-gt-MOST_PAUSE : goal.returns-then-saturating_sub
 unfolding segment_planned
 returns-then-saturating_sub-gt-MOST_PAUSE c = rw (← c.self.view_is) c.and-self-inside.ensures
 
-pub returns-then-not-write_slot : goal.returns-then-not-write_slot
+pub returns-then-not-write : goal.returns-then-not-write
 unfolding segment_planned
-returns-then-not-write_slot c = rw (← c.self.view_is) c.and-self-inside.ensures
+returns-then-not-write c = rw (← c.self.view_is) c.and-self-inside.ensures
 
-pub returns-else-not-write_slot : goal.returns-else-not-write_slot
+pub returns-else-not-write : goal.returns-else-not-write
 unfolding segment_planned
-returns-else-not-write_slot c = rw (← c.self.view_is) c.and-self-inside.ensures
+returns-else-not-write c = rw (← c.self.view_is) c.and-self-inside.ensures

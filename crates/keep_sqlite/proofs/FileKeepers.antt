@@ -1,5 +1,5 @@
 -- What a keeper tells whose file was just opened.
-use Rattle.std.proofs.Common.{◌≡◌, inl, inr, false, Ok, Err, Result, Option, Some, None, IfOk, IfErr, IfSome, refl, sym, subst}
+use Rattle.std.proofs.Common.{◌≡◌, inl, inr, false, IsTrue, Ok, Err, Result, Option, Some, None, IfOk, IfErr, IfSome, refl, sym, subst}
 use Rattle.sqlite_disk.specs.declared.Disk.{Ghosts}
 use Rattle.sqlite.specs.declared.FileStore.{FileStore}
 use Rattle.sqlite.specs.declared.error.Error.{Error}
@@ -11,11 +11,11 @@ use Rattle.sqlite.specs.Recovery.{Image}
 use Rattle.sqlite.specs.Files.{file_state, over_files, IsOpened}
 use Rattle.sqlite.specs.Start.{FindsIn}
 use Rattle.keep_sqlite.specs.declared.refusal.Refusal.{Refusal}
-use Rattle.keep_sqlite.specs.FileKeepers.{opened_items, FailsOnFiles, FailsToConnect, IsAdopted, IsSystemError, OpenedIsUp, OpenedSees, OpenedTells, UnconnectedFor, UnopenedFor}
+use Rattle.keep_sqlite.specs.FileKeepers.{is_read, opened_items, FailsOnFiles, FailsToConnect, IsAdopted, IsOpenedOver, IsSystemError, OpenedIsClean, OpenedLeavesTold, OpenedSees, OpenedTells, UnconnectedFor, UnopenedFor}
 use Rattle.keep_sqlite.specs.Refusals.{refusal_of}
 use Rattle.keep_sqlite.specs.Reopened.{HeldDatabase, ReadsFile}
 use Rattle.keep_sqlite.specs.Rows.{MayHold}
-use Rattle.keep_sqlite.specs.Telling.{database, told, KeeperView}
+use Rattle.keep_sqlite.specs.Telling.{database, told, IsUp, KeeperView}
 use Rattle.keep_sqlite.proofs.Reopens.{found_in, reads_file}
 
 pub if_some_map : {A : Type 0} {P Q : A → Type 0} (o : Option A) → IfSome o P → ((a : A) → P a → Q a) → IfSome o Q
@@ -27,7 +27,7 @@ if_err_later P (Ok a) p = tt
 if_err_later P (Err e) p = p
 
 module _ {D : Type 0} {g : Ghosts D} (image : Image) where
-  pub found_file : (opened : Result (Held (FileStore D g)) Refusal) (keeper : Result (KeeperView (FileStore D g)) Refusal) → IsAdopted opened keeper
+  found_file : (opened : Result (Held (FileStore D g)) Refusal) (keeper : Result (KeeperView (FileStore D g)) Refusal) → IsAdopted opened keeper
       → IfOk opened (λ c. HasCleanDisk (file_state c) → IsOpened c)
       → IfOk opened (λ c. HasCleanDisk (file_state c) → FindsIn image (file_state c))
       → OpenedTells over_files keeper → ReadsFile image (opened_items over_files keeper)
@@ -37,33 +37,64 @@ module _ {D : Type 0} {g : Ghosts D} (image : Image) where
   found_file (Err refusal) (Ok keeper) adopted is_opened finds tells held holds = absurd adopted
   found_file (Err refusal) (Err again) adopted is_opened finds tells held holds = absurd tells
 
-  pub tells_file : (opened : Result (Held (FileStore D g)) Refusal) (keeper : Result (KeeperView (FileStore D g)) Refusal) → IsAdopted opened keeper
+  -- a connection that was just opened is open
+  up_file : (opened adopted : Held (FileStore D g)) → adopted ≡ opened → (HasCleanDisk (file_state opened) → IsOpened opened) → HasCleanDisk (file_state adopted) → IsUp over_files adopted
+  up_file opened adopted same is_opened clean =
+      let first = subst (λ c. HasCleanDisk (file_state c)) same clean in
+      (clean, subst (λ c. IsTrue (file_state c).is_open) (sym same) (is_opened first).0.is_open)
+
+  -- and no transaction is begun on it
+  quiet_file : (opened : Result (Held (FileStore D g)) Refusal) (keeper : Result (KeeperView (FileStore D g)) Refusal) → IsAdopted opened keeper
+      → IfOk opened (λ c. HasCleanDisk (file_state c) → IsOpened c)
+      → (IfOk opened (λ c. c.in_transaction ≡ false) → OpenedLeavesTold over_files keeper) → OpenedLeavesTold over_files keeper
+  quiet_file (Ok connection) (Ok keeper) adopted is_opened rests tells =
+      rests (is_opened (subst (λ c. HasCleanDisk (file_state c)) adopted.0 tells.0.0)).0.autocommit tells
+  quiet_file (Ok connection) (Err refusal) adopted is_opened rests tells = absurd tells
+  quiet_file (Err refusal) (Ok keeper) adopted is_opened rests tells = absurd adopted
+  quiet_file (Err refusal) (Err again) adopted is_opened rests tells = absurd tells
+
+  tells_file : (opened : Result (Held (FileStore D g)) Refusal) (keeper : Result (KeeperView (FileStore D g)) Refusal) → IsAdopted opened keeper
       → IfOk opened (λ c. HasCleanDisk (file_state c) → IsOpened c)
       → IfOk opened (λ c. HasCleanDisk (file_state c) → FindsIn image (file_state c))
-      → (held : Database) → HeldDatabase image held → MayHold false held → OpenedIsUp over_files keeper → OpenedTells over_files keeper
-  tells_file (Ok connection) (Ok keeper) adopted is_opened finds held holds may up =
+      → (held : Database) → HeldDatabase image held → MayHold false held → OpenedIsClean over_files keeper → OpenedTells over_files keeper
+  tells_file (Ok connection) (Ok keeper) adopted is_opened finds held holds may clean =
+      let up = up_file connection keeper.connection adopted.0 is_opened clean in
       let now = found_in connection keeper.connection image held adopted.0 up is_opened finds holds in
       (up, subst (λ b. MayHold b (database over_files keeper)) (sym adopted.1) (subst (MayHold false) (sym now) may))
-  tells_file (Ok connection) (Err refusal) adopted is_opened finds held holds may up = absurd up
-  tells_file (Err refusal) (Ok keeper) adopted is_opened finds held holds may up = absurd adopted
-  tells_file (Err refusal) (Err again) adopted is_opened finds held holds may up = absurd up
+  tells_file (Ok connection) (Err refusal) adopted is_opened finds held holds may clean = absurd clean
+  tells_file (Err refusal) (Ok keeper) adopted is_opened finds held holds may clean = absurd adopted
+  tells_file (Err refusal) (Err again) adopted is_opened finds held holds may clean = absurd clean
 
-  pub sees_file : (opened : Result (Held (FileStore D g)) Refusal) (keeper : Result (KeeperView (FileStore D g)) Refusal) → IsAdopted opened keeper
+  sees_file : (opened : Result (Held (FileStore D g)) Refusal) (keeper : Result (KeeperView (FileStore D g)) Refusal) → IsAdopted opened keeper
       → IfOk opened (λ c. HasCleanDisk (file_state c) → IsOpened c)
       → IfOk opened (λ c. HasCleanDisk (file_state c) → FindsIn image (file_state c))
-      → (held : Database) → HeldDatabase image held → OpenedIsUp over_files keeper → OpenedSees over_files keeper held
-  sees_file (Ok connection) (Ok keeper) adopted is_opened finds held holds up =
-      found_in connection keeper.connection image held adopted.0 up is_opened finds holds
-  sees_file (Ok connection) (Err refusal) adopted is_opened finds held holds up = absurd up
-  sees_file (Err refusal) (Ok keeper) adopted is_opened finds held holds up = absurd adopted
-  sees_file (Err refusal) (Err again) adopted is_opened finds held holds up = absurd up
+      → (held : Database) → HeldDatabase image held → OpenedIsClean over_files keeper → OpenedSees over_files keeper held
+  sees_file (Ok connection) (Ok keeper) adopted is_opened finds held holds clean =
+      found_in connection keeper.connection image held adopted.0 (up_file connection keeper.connection adopted.0 is_opened clean) is_opened finds holds
+  sees_file (Ok connection) (Err refusal) adopted is_opened finds held holds clean = absurd clean
+  sees_file (Err refusal) (Ok keeper) adopted is_opened finds held holds clean = absurd adopted
+  sees_file (Err refusal) (Err again) adopted is_opened finds held holds clean = absurd clean
 
-  pub unopened_file : (opened : Result (Held (FileStore D g)) Refusal) (keeper : Result (KeeperView (FileStore D g)) Refusal) → IsAdopted opened keeper
+  unopened_file : (opened : Result (Held (FileStore D g)) Refusal) (keeper : Result (KeeperView (FileStore D g)) Refusal) → IsAdopted opened keeper
       → UnconnectedFor image opened → UnopenedFor image keeper
   unopened_file (Ok connection) (Ok keeper) adopted why = tt
   unopened_file (Ok connection) (Err refusal) adopted why = absurd adopted
   unopened_file (Err refusal) (Ok keeper) adopted why = absurd adopted
   unopened_file (Err refusal) (Err again) adopted why = subst (FailsToConnect g image) (sym adopted) why
+
+  -- all that is known of it
+  pub opened_file : (opened : Result (Held (FileStore D g)) Refusal) (keeper : Result (KeeperView (FileStore D g)) Refusal) → IsAdopted opened keeper → is_read keeper ≡ false
+      → IfOk opened (λ c. HasCleanDisk (file_state c) → IsOpened c)
+      → IfOk opened (λ c. HasCleanDisk (file_state c) → FindsIn image (file_state c))
+      → (IfOk opened (λ c. c.in_transaction ≡ false) → OpenedLeavesTold over_files keeper) → UnconnectedFor image opened → IsOpenedOver image keeper
+  opened_file opened keeper adopted unread is_opened finds rests why = record {
+    found = found_file opened keeper adopted is_opened finds;
+    rests = quiet_file opened keeper adopted is_opened rests;
+    tells = tells_file opened keeper adopted is_opened finds;
+    sees = sees_file opened keeper adopted is_opened finds;
+    unopened = unopened_file opened keeper adopted why;
+    unread = unread;
+  }
 
   -- the error of an opening, as it is told
   pub unconnected : (answer : Result (Held (FileStore D g)) (Error × Option (Leftover D g))) (told : Result (Held (FileStore D g)) Refusal)

@@ -6,7 +6,9 @@ use Rattle.sqlite_trees.specs.declared.store.Store.{Ghosts}
 use Rattle.sqlite.specs.declared.FileStore.{FileStore}
 use Rattle.sqlite.specs.FileStore.{recovers, view}
 use Rattle.sqlite.specs.Effect.{Database, IsDatabase}
-use Rattle.sqlite.specs.Held.{AreDatabases}
+use Rattle.sqlite.specs.Held.{state, AreDatabases}
+use Rattle.sqlite.specs.State.{HasCleanDisk, IsLive, Survives}
+use Rattle.sqlite_trees.specs.Tree.{Trees}
 use Rattle.sqlite.proofs.Theorems.{opens_again}
 use Rattle.mud_world.specs.declared.item.Item.{Item}
 use Rattle.mud_world.specs.declared.item.Put.{Put}
@@ -14,8 +16,8 @@ use Rattle.mud_world.specs.Items.{put_all}
 use Rattle.keep_sqlite.specs.Reopened.{IsFoundNext}
 use Rattle.keep_sqlite.specs.Rows.{held_items, items_of, AreTreesOf, HoldsItems, MayHold}
 use Rattle.keep_sqlite.specs.Table.{item_schema}
-use Rattle.keep_sqlite.specs.Telling.{database, told, KeeperView, Leaves, MayBeLeft, MayLeave, MayLeaveMade, Tells}
-use Rattle.keep_sqlite.proofs.Reopens.{same_database}
+use Rattle.keep_sqlite.specs.Telling.{database, told, KeeperView, Leaves, LeavesTold, MayBeLeft, MayLeave, MayLeaveMade, Tells}
+use Rattle.keep_sqlite.proofs.Reopens.{clean_before, same_database}
 use Rattle.keep_sqlite.proofs.Tellings.{held_is, held_none}
 
 items_left : (items : List Item) (db : Database) → IsDatabase db → AreTreesOf items db.trees → held_items db ≡ items
@@ -28,29 +30,47 @@ holds_opened b db opened (inl holds) = holds
 holds_opened b db opened (inr blank) = absurd (let e = sym opened ∙ blank.0 in cc)
 
 module _ {S : Type 0} (g : Ghosts S) (old new : KeeperView S) where
+  was_left : {P : Trees → Type 0} → (crash : Survives (state g old.connection) (state g new.connection) P) → (list : List Item) → (it : MayBeLeft g new list)
+      → (state g old.connection).may_leave it.db.trees → MayBeLeft g old list
+  was_left crash list it before = record { clean = clean_before _ _ crash.clean it.clean; db = it.db; sound = it.sound; left = before; items = it.items }
+
   -- what an opening leaves
-  pub read_left : MayLeaveMade g old new → Tells g new → told g new ≡ told g old → (list : List Item) → MayBeLeft g new list
-      → MayBeLeft g old list ⊎ (list ≡ told g new)
-  read_left crash tells same list (db, sound, may, e) = elim (crash.crash tells.0.0 db.trees may) [
-    | inl before ↦ inl (db, sound, before, e)
-    | inr made ↦ inr (sym e ∙ items_left [] db sound made.1 ∙ sym (same ∙ held_none (database g old) made.0))
+  pub read_left : MayLeaveMade g old new → (list : List Item) → MayBeLeft g new list → MayBeLeft g old list ⊎ (list ≡ told g old)
+  read_left crash list it = elim (crash.crash it.clean it.db.trees it.left) [
+    | inl before ↦ inl (was_left crash list it before)
+    | inr made ↦ inr (sym it.items ∙ items_left [] it.db it.sound made.1 ∙ sym (held_none (database g old) made.0))
   ]
 
   -- what a batch leaves
-  pub put_left : (batch : List Put) → IsTrue old.has_opened → Tells g old → MayLeave g old new (put_all (items_of (database g old)) batch) → Tells g new
-      → (list : List Item) → MayBeLeft g new list → MayBeLeft g old list ⊎ (list ≡ put_all (told g old) batch)
-  put_left batch opened told_old crash tells list (db, sound, may, e) = elim (crash.crash tells.0.0 db.trees may) [
-    | inl before ↦ inl (db, sound, before, e)
-    | inr made ↦ inr (sym e ∙ items_left (put_all (items_of (database g old)) batch) db sound made
-        ∙ ap (λ items. put_all items batch) (sym (held_is (database g old) (holds_opened old.has_opened (database g old) opened told_old.1))))
+  pub put_left : (batch : List Put) → IsTrue old.has_opened → MayLeave g old new (put_all (items_of (database g old)) batch)
+      → (list : List Item) → MayBeLeft g new list → MayBeLeft g old list ⊎ (Tells g old × (list ≡ put_all (told g old) batch))
+  put_left batch opened crash list it = elim (crash.crash it.clean it.db.trees it.left) [
+    | inl before ↦ inl (was_left crash list it before)
+    | inr made ↦ inr (
+      made.0,
+      sym it.items ∙ items_left (put_all (items_of (database g old)) batch) it.db it.sound made.1
+      ∙ ap (λ items. put_all items batch) (sym (held_is (database g old) (holds_opened old.has_opened (database g old) opened made.0.1))),
+    )
   ]
 
-  pub rests_left : Leaves g new (told g new) → (list : List Item) → MayBeLeft g new list → list ≡ told g new
-  rests_left leaves list (db, sound, may, e) = sym e ∙ items_left (told g new) db sound (leaves db.trees may)
+  pub rests_left : (HasCleanDisk (state g new.connection) → Tells g new) → (Tells g new → Leaves g new (told g new))
+      → (list : List Item) → MayBeLeft g new list → Tells g new × (list ≡ told g new)
+  rests_left tells leaves list it =
+      let told = tells it.clean in (told, sym it.items ∙ items_left _ it.db it.sound (leaves told it.db.trees it.left))
 
-pub on_ok_as : {A E : Type 0} {P Q : Type 0} (r : Result A E) → OnOk r P → (P → Q) → OnOk r Q
-on_ok_as (Ok a) p f = f p
-on_ok_as (Err e) p f = tt
+-- what is left of a store that is open and settled
+pub told_left : {S : Type 0} (g : Ghosts S) (keeper : KeeperView S)
+    → ((trees : Trees) → IsTrue (state g keeper.connection).is_open → (state g keeper.connection).may_leave trees → trees ≡ (state g keeper.connection).committed.trees)
+    → (IsTrue (state g keeper.connection).is_open → (state g keeper.connection).now ≡ (state g keeper.connection).committed) → IsLive (state g keeper.connection) → LeavesTold g keeper
+told_left g keeper settled same live tells list it =
+    let is_open = tells.0.1 in
+    let trees = settled it.db.trees is_open it.left ∙ ap (λ (d : Database). d.trees) (sym (same is_open)) in
+    sym it.items ∙ ap held_items (same_database it.db (database g keeper) it.sound (live is_open).0 trees)
+
+-- what holds behind an Ok under a premise
+pub on_ok_given : {A E T C P Q : Type 0} (r : Result A E) → (C → OnOk r T) → (T → OnOk r P) → ((C → T) → (T → P) → Q) → OnOk r Q
+on_ok_given (Ok a) t p f = f t p
+on_ok_given (Err e) t p f = tt
 
 -- what is left of a store, the next first opening finds
 pub left_next : {D : Type 0} {g : disk.Ghosts D} (it : FileStore D g) (Lists : List Item → Type 0) → IsTrue (view it).is_numbered → AreDatabases (recovers it)

@@ -72,10 +72,6 @@ one_of one other trees (inr are) = (other, inr refl, are)
 pub clean_before : (before after : ℕ) → before ≤ after → after ≡ 0 → before ≡ 0
 clean_before before after below none = omega arith
 
-pub either_of : {A B C : Type 0} → (A → C) → A ⊎ B → C ⊎ B
-either_of f (inl a) = inl (f a)
-either_of f (inr b) = inr b
-
 pub on_ok_then : {A E : Type 0} {T P L Q : Type 0} (r : Result A E) → OnOk r T → (T → OnOk r P) → (T → OnOk r L) → (P → L → Q) → OnOk r Q
 on_ok_then (Ok a) t p l f = f (p t) (l t)
 on_ok_then (Err e) t p l f = tt

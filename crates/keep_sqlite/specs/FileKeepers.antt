@@ -9,7 +9,7 @@ use Rattle.sqlite.specs.declared.error.ErrorCode.TheVariants.{CannotOpen, Databa
 use Rattle.sqlite.specs.declared.file.Leftover.{Leftover}
 use Rattle.sqlite.specs.declared.FileStore.{FileStore}
 use Rattle.sqlite.specs.Effect.{Database}
-use Rattle.sqlite.specs.Files.{image_of, FailsToOpenFiles, IsCleanLeft, LeavesFiles}
+use Rattle.sqlite.specs.Files.{image_of, over_files, FailsToOpenFiles, IsCleanLeft, LeavesFiles}
 use Rattle.sqlite.specs.Held.{Held, state}
 use Rattle.sqlite.specs.Recovery.{Image}
 use Rattle.sqlite.specs.State.{HasCleanDisk}
@@ -18,7 +18,8 @@ use Rattle.mud_world.specs.declared.item.Put.{Put}
 use Rattle.keep_sqlite.specs.declared.refusal.Refusal.{Refusal}
 use Rattle.keep_sqlite.specs.Refusals.{refusal_of}
 use Rattle.keep_sqlite.specs.Refused.{IsRefused, IsUnopened}
-use Rattle.keep_sqlite.specs.Rows.{MayMake}
+use Rattle.keep_sqlite.specs.Reopened.{HeldDatabase, ReadsFile}
+use Rattle.keep_sqlite.specs.Rows.{MayHold, MayMake}
 use Rattle.keep_sqlite.specs.Telling.{database, told, IsUp, KeeperView, MayBeLeft, Tells}
 
 -- whether an `open` has answered Ok
@@ -48,6 +49,14 @@ module _ {S : Type 0} (g : Ghosts S) where
   abbrev pub OpenedMayLeave : Result (KeeperView S) Refusal → List Item → Type 0
   OpenedMayLeave (Ok keeper) list = MayBeLeft g keeper list
   OpenedMayLeave (Err refusal) list = Unit {0}
+
+  -- Where a crash at this moment leaves anything, the keeper tells its items, and they are what it leaves.
+  abbrev pub OpenedRests : Result (KeeperView S) Refusal → Type 0
+  OpenedRests keeper = (list : List Item) → OpenedMayLeave keeper list → OpenedTells keeper × (list ≡ opened_items keeper)
+
+  -- While the keeper tells its items, a crash leaves these and nothing else.
+  abbrev pub OpenedLeavesTold : Result (KeeperView S) Refusal → Type 0
+  OpenedLeavesTold keeper = OpenedTells keeper → (list : List Item) → OpenedMayLeave keeper list → list ≡ opened_items keeper
 
   -- It has a connection, whose disk has given back what was written,
   abbrev pub OpenedIsClean : Result (KeeperView S) Refusal → Type 0
@@ -114,3 +123,17 @@ module _ {D : Type 0} {g : disk.Ghosts D} (image : Image) where
   abbrev pub UnopenedFor : Result (KeeperView (FileStore D g)) Refusal → Type 0
   UnopenedFor (Ok keeper) = Unit {0}
   UnopenedFor (Err refusal) = FailsToConnect g image refusal
+
+  -- What a keeper is whose file was opened just now, and held this.
+  pub record IsOpenedOver (keeper : Result (KeeperView (FileStore D g)) Refusal) : Type 0 where
+    -- Where it tells its items, they are those that the file held, and a crash leaves just these.
+    pub found : OpenedTells over_files keeper → ReadsFile image (opened_items over_files keeper)
+    pub rests : OpenedLeavesTold over_files keeper
+    -- It tells them where the file held items, or was a database without a table, and its disk gave back what was written.
+    pub tells : (held : Database) → HeldDatabase image held → MayHold false held → OpenedIsClean over_files keeper → OpenedTells over_files keeper
+    -- Whatever database the file held, it is then the one that the keeper sees.
+    pub sees : (held : Database) → HeldDatabase image held → OpenedIsClean over_files keeper → OpenedSees over_files keeper held
+    -- Where the file couldn't be opened, the system refused it, or the database failed on what it held.
+    pub unopened : UnopenedFor keeper
+    -- No `open` has answered Ok yet.
+    pub unread : is_read keeper ≡ false

@@ -52,14 +52,23 @@ module _ {S : Type 0} (g : Ghosts S) where
   LeavesEither keeper one other =
       (trees : Trees) → (state g keeper.connection).may_leave trees → AreTreesOf one trees ⊎ AreTreesOf other trees
 
-  -- After a call a crash leaves what it could leave before, or the trees of these items, whole. Only a fault shuts the connection.
+  -- After a call a crash leaves what it could leave before or, where the keeper told its items then, the trees of these, whole. Only a
+  -- fault shuts the connection.
   abbrev pub MayLeave : KeeperView S → KeeperView S → List Item → Type 0
-  MayLeave old new items = Survives (state g old.connection) (state g new.connection) (AreTreesOf items)
+  MayLeave old new items = Survives (state g old.connection) (state g new.connection) (λ trees. Tells old × AreTreesOf items trees)
 
   -- After an opening a crash leaves what it could leave before or, where there was no table, the table without a row.
   abbrev pub MayLeaveMade : KeeperView S → KeeperView S → Type 0
   MayLeaveMade old new = Survives (state g old.connection) (state g new.connection) (AreMadeTrees (database old))
 
-  -- A crash at this moment may leave a database that tells these items.
-  abbrev pub MayBeLeft : KeeperView S → List Item → Type 0
-  MayBeLeft keeper list = (db : Database) × IsDatabase db × (state g keeper.connection).may_leave db.trees × (held_items db ≡ list)
+  -- Where the disk has given back what was written, a crash at this moment may leave a database that tells these items.
+  pub record MayBeLeft (keeper : KeeperView S) (list : List Item) : Type 0 where
+    pub clean : HasCleanDisk (state g keeper.connection)
+    pub db : Database
+    pub sound : IsDatabase db
+    pub left : (state g keeper.connection).may_leave db.trees
+    pub items : held_items db ≡ list
+
+  -- While the keeper tells its items, a crash leaves these and nothing else.
+  abbrev pub LeavesTold : KeeperView S → Type 0
+  LeavesTold keeper = Tells keeper → (list : List Item) → MayBeLeft keeper list → list ≡ told keeper

@@ -18,7 +18,7 @@ pub(crate) fn keep<S: Alter>(connection: &mut Connection<S>, batch: &[Put]) -> R
     requires batch { 1 ≤ length batch.now }
     requires holds { IsUp S.Store connection.old → HoldsItems (state S.Store connection.old).now }
     ensures crash { Survives (state S.Store connection.old) (state S.Store connection.new)
-        (AreTreesOf (put_all (items_of (state S.Store connection.old).now) batch.now)) }
+        (λ trees. IsUp S.Store connection.old × AreTreesOf (put_all (items_of (state S.Store connection.old).now) batch.now) trees) }
     ensures was_open { HasCleanDisk (state S.Store connection.new)
         → IsTrue (state S.Store connection.new).is_open → IsTrue (state S.Store connection.old).is_open }
     ensures ok { HasCleanDisk (state S.Store connection.new)

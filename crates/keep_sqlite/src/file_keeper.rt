@@ -5,20 +5,18 @@ ghost use Rattle.mud_world.specs.Calls.{counted};
 ghost use Rattle.mud_world.specs.Causes.{Counts};
 ghost use Rattle.mud_world.specs.Items as items;
 ghost use Rattle.mud_world.specs.Items.{is_batch, put_all, IsOrdered};
-ghost use Rattle.sqlite.specs.Effect.{Database};
 ghost use Rattle.sqlite.specs.Files.{over_files};
 ghost use Rattle.sqlite.specs.FileStore.{view};
 ghost use Rattle.sqlite.specs.WalFiles.{image_at};
 ghost use Rattle.sqlite_trees.specs.View.{IsClean};
 ghost use Rattle.keep_sqlite.specs.declared.refusal.Refusal.{Refusal};
-ghost use Rattle.keep_sqlite.specs.FileKeepers.{is_read, opened_items, IsAdopted, OpenedIsClean, OpenedIsUp, OpenedMayLeave, OpenedMayMake, OpenedRefuses, OpenedSees, OpenedTells, OpenedUnread, UnopenedFor};
+ghost use Rattle.keep_sqlite.specs.FileKeepers.{is_read, opened_items, IsAdopted, IsOpenedOver, OpenedIsClean, OpenedLeavesTold, OpenedMayLeave, OpenedMayMake, OpenedRefuses, OpenedRests, OpenedTells, OpenedUnread};
 ghost use Rattle.keep_sqlite.specs.Refusals.{fault_of, refused, told_of};
-ghost use Rattle.keep_sqlite.specs.Reopened.{HeldDatabase, IsFoundNext, ReadsFile};
-ghost use Rattle.keep_sqlite.specs.Rows.{MayHold};
+ghost use Rattle.keep_sqlite.specs.Reopened.{IsFoundNext};
 
 use crate::SqliteKeeper;
 use crate::first_opening::connect;
-use crate::laws::leave;
+use crate::laws::{leave, told_items_are_left};
 use crate::refusal::{Refusal, count, fault_of};
 use mud_base::Listed;
 use mud_world::{Item, KeepFault, Keeper, Put};
@@ -65,6 +63,7 @@ impl<S: Alter + Drop> FileKeeper<S> {
     ) -> FileKeeper<S>
         ensures path { result.path ≡ path }
         ensures adopted { IsAdopted opened result.keeper }
+        ensures rests { IfOk opened (λ connection. connection.in_transaction ≡ false) → OpenedLeavesTold S.Store result.keeper }
         ensures faults { result.faults ≡ 0 }
         ensures unread { is_read result.keeper ≡ false }
     {
@@ -97,10 +96,15 @@ fn adopted<S: Alter + Drop>(
     opened: Result<Connection<S>, Refusal>,
 ) -> Result<SqliteKeeper<S>, Refusal>
     ensures adopted { IsAdopted opened result }
+    ensures rests { IfOk opened (λ connection. connection.in_transaction ≡ false) → OpenedLeavesTold S.Store result }
     ensures unread { is_read result ≡ false }
 {
     match opened {
-        Ok(connection) => Ok(SqliteKeeper::adopt(connection)),
+        Ok(connection) => {
+            let keeper = SqliteKeeper::adopt(connection);
+            told_items_are_left(&keeper);
+            Ok(keeper)
+        }
         Err(refusal) => Err(refusal),
     }
 }
@@ -112,20 +116,8 @@ pub fn open_file<S: Start>(
     path: String,
     start: S,
 ) -> FileKeeper<FileStore<FileFrom<S>>>
-    // Where it tells its items, they are those that the file held.
-    ensures found { OpenedTells over_files result.keeper
-        → ReadsFile (image_at S.Start) (opened_items over_files result.keeper) }
-    // It tells them where the file held items, or was a database without a table, and its disk gave back
-    // what was written.
-    ensures tells { (held : Database) → HeldDatabase (image_at S.Start) held → MayHold false held
-        → OpenedIsUp over_files result.keeper → OpenedTells over_files result.keeper }
-    // Whatever database the file held, it is the one that the keeper sees.
-    ensures sees { (held : Database) → HeldDatabase (image_at S.Start) held
-        → OpenedIsUp over_files result.keeper → OpenedSees over_files result.keeper held }
-    // Where the file couldn't be opened, the system refused it, or the database failed on what it held.
-    ensures unopened { UnopenedFor (image_at S.Start) result.keeper }
+    ensures opened { IsOpenedOver (image_at S.Start) result.keeper }
     ensures faults { result.faults ≡ 0 }
-    ensures unread { is_read result.keeper ≡ false }
 {
     let opened = connect(rt, path.as_str(), start);
     FileKeeper::over(rt, path, opened)
@@ -154,10 +146,9 @@ fn read_opened<S: Alter + Drop>(
         → opened_items S.Store keeper.new ≡ opened_items S.Store keeper.old }
     ensures told { OpenedTells S.Store keeper.new → OpenedTells S.Store keeper.old }
     ensures tells { OpenedIsClean S.Store keeper.new → OnOk result (OpenedTells S.Store keeper.new) }
-    ensures crash { OpenedTells S.Store keeper.new → (list : List Item) → OpenedMayLeave S.Store keeper.new list
-        → OpenedMayLeave S.Store keeper.old list ⊎ (list ≡ opened_items S.Store keeper.new) }
-    ensures rests { OpenedTells S.Store keeper.new
-        → OnOk result ((list : List Item) → OpenedMayLeave S.Store keeper.new list → list ≡ opened_items S.Store keeper.new) }
+    ensures crash { OpenedTells S.Store keeper.old → (list : List Item) → OpenedMayLeave S.Store keeper.new list
+        → OpenedMayLeave S.Store keeper.old list ⊎ (list ≡ opened_items S.Store keeper.old) }
+    ensures rests { OnOk result (OpenedRests S.Store keeper.new) }
     ensures opened { OnOk result (is_read keeper.new ≡ true) }
     ensures still { OnErr result (is_read keeper.new ≡ is_read keeper.old) }
     ensures kept { OpenedMayMake S.Store keeper.old keeper.new }
@@ -182,10 +173,9 @@ fn keep_opened<S: Alter + Drop>(
         → OnOk result (opened_items S.Store keeper.new ≡ put_all (opened_items S.Store keeper.old) batch.now) }
     ensures err { OpenedTells S.Store keeper.new
         → OnErr result (opened_items S.Store keeper.new ≡ opened_items S.Store keeper.old) }
-    ensures crash { OpenedTells S.Store keeper.new → (list : List Item) → OpenedMayLeave S.Store keeper.new list
-        → OpenedMayLeave S.Store keeper.old list ⊎ (list ≡ put_all (opened_items S.Store keeper.old) batch.now) }
-    ensures rests { OpenedTells S.Store keeper.new
-        → OnOk result ((list : List Item) → OpenedMayLeave S.Store keeper.new list → list ≡ opened_items S.Store keeper.new) }
+    ensures crash { (list : List Item) → OpenedMayLeave S.Store keeper.new list → OpenedMayLeave S.Store keeper.old list
+        ⊎ (OpenedTells S.Store keeper.old × (list ≡ put_all (opened_items S.Store keeper.old) batch.now)) }
+    ensures rests { OnOk result (OpenedRests S.Store keeper.new) }
     ensures opened { is_read keeper.new ≡ is_read keeper.old }
     ensures refused { IfErr result (OpenedRefuses S.Store keeper.old keeper.new batch.now) }
 {
@@ -241,11 +231,10 @@ impl<S: Alter + Drop> Keeper for FileKeeper<S> {
         ensures told { OpenedTells S.Store self.new.keeper → OpenedTells S.Store self.old.keeper }
         // Where the disk gives back what was written, an Ok tells its items.
         ensures tells { OpenedIsClean S.Store self.new.keeper → OnOk result (OpenedTells S.Store self.new.keeper) }
-        ensures crash { OpenedTells S.Store self.new.keeper
+        ensures crash { OpenedTells S.Store self.old.keeper
             → (list : List Item) → OpenedMayLeave S.Store self.new.keeper list
-            → OpenedMayLeave S.Store self.old.keeper list ⊎ (list ≡ opened_items S.Store self.new.keeper) }
-        ensures rests { OpenedTells S.Store self.new.keeper
-            → OnOk result ((list : List Item) → OpenedMayLeave S.Store self.new.keeper list → list ≡ opened_items S.Store self.new.keeper) }
+            → OpenedMayLeave S.Store self.old.keeper list ⊎ (list ≡ opened_items S.Store self.old.keeper) }
+        ensures rests { OnOk result (OpenedRests S.Store self.new.keeper) }
         ensures opened { OnOk result (is_read self.new.keeper ≡ true) }
         ensures still { OnErr result (is_read self.new.keeper ≡ is_read self.old.keeper) }
         ensures count { self.new.faults ≡ counted (items.has_failed result) self.old.faults }
@@ -274,11 +263,9 @@ impl<S: Alter + Drop> Keeper for FileKeeper<S> {
             → OnOk result (opened_items S.Store self.new.keeper ≡ put_all (opened_items S.Store self.old.keeper) batch.now) }
         ensures err { OpenedTells S.Store self.new.keeper
             → OnErr result (opened_items S.Store self.new.keeper ≡ opened_items S.Store self.old.keeper) }
-        ensures crash { OpenedTells S.Store self.new.keeper
-            → (list : List Item) → OpenedMayLeave S.Store self.new.keeper list
-            → OpenedMayLeave S.Store self.old.keeper list ⊎ (list ≡ put_all (opened_items S.Store self.old.keeper) batch.now) }
-        ensures rests { OpenedTells S.Store self.new.keeper
-            → OnOk result ((list : List Item) → OpenedMayLeave S.Store self.new.keeper list → list ≡ opened_items S.Store self.new.keeper) }
+        ensures crash { (list : List Item) → OpenedMayLeave S.Store self.new.keeper list → OpenedMayLeave S.Store self.old.keeper list
+            ⊎ (OpenedTells S.Store self.old.keeper × (list ≡ put_all (opened_items S.Store self.old.keeper) batch.now)) }
+        ensures rests { OnOk result (OpenedRests S.Store self.new.keeper) }
         ensures opened { is_read self.new.keeper ≡ is_read self.old.keeper }
         ensures count { self.new.faults ≡ counted (items.has_failed result) self.old.faults }
         ensures cause { Counts (items.has_failed result) self.old.faults self.new.faults }

@@ -1,5 +1,5 @@
 //! Laws of what keepers tell, on functions that do nothing, or no more than to make or open one.
-ghost use Rattle.std.specs.Prelude.{◌≡◌, ◌≤◌, ◌⊎◌, List, [], IsTrue, IfOk, OnOk};
+ghost use Rattle.std.specs.Prelude.{◌≡◌, ◌≤◌, ◌⊎◌, false, List, [], IsTrue, IfOk, OnOk};
 ghost use Rattle.mud_world.specs.declared.item.Item.{Item};
 ghost use Rattle.mud_world.specs.Items.{is_batch, put_all};
 ghost use Rattle.sqlite_trees.specs.View.{doubt, IsClean};
@@ -11,7 +11,7 @@ ghost use Rattle.sqlite.specs.Steps.{over_memory};
 ghost use Rattle.keep_sqlite.specs.Table.{no_schema};
 ghost use Rattle.keep_sqlite.specs.Rows.{held_items, items_of, HoldsItems};
 ghost use Rattle.keep_sqlite.specs.Reopened.{IsFoundNext};
-ghost use Rattle.keep_sqlite.specs.Telling.{database, told, IsUp, Leaves, LeavesEither, MayBeLeft, Tells};
+ghost use Rattle.keep_sqlite.specs.Telling.{database, told, IsUp, Leaves, LeavesEither, LeavesTold, MayBeLeft, Tells};
 
 use crate::{Refusal, SqliteKeeper};
 use mud_base::Listed;
@@ -26,6 +26,15 @@ pub fn memory_keepers_tell(keeper: &SqliteKeeper<MemStore>)
     ensures { IsTrue keeper.now.has_opened → Tells over_memory keeper.now }
 {
     let _ = keeper.has_opened();
+}
+
+/// While a keeper tells its items, and no transaction is begun, a crash leaves these and nothing else:
+/// what may be left besides is left by a call that fails, and shuts the connection.
+pub fn told_items_are_left<S: Alter + Drop>(keeper: &SqliteKeeper<S>)
+    ensures { keeper.now.connection.in_transaction ≡ false → LeavesTold S.Store keeper.now }
+{
+    let _ = keeper.connection.is_autocommit();
+    let _ = keeper.connection.schema();
 }
 
 /// A keeper whose items aren't read yet tells them where its connection is up: those that its

@@ -2,6 +2,7 @@
 use Rattle.std.proofs.Common.{◌≡◌, ◌≢◌, ℕ, ◌≤◌, Bool, true, false, IsTrue, List, [], Result, Ok, Err, refl, sym, ap, ◌∙◌, subst, if◌then◌else◌, arith}
 use Rattle.std.specs.Prelude.{max, IsOkAnd, IfOk, IsSome}
 use Rattle.mud_base.specs.declared.memory.Memory as want
+use Rattle.mud_world.specs.declared.item.Item.{Item}
 use Rattle.mud_world.specs.declared.item.Put.{Put}
 use Rattle.mud_world.specs.Items.{put_all, is_batch}
 use Rattle.mud_world.specs.Causes.{Counts}
@@ -24,6 +25,7 @@ use Rattle.desk_model.specs.Refusals.{is_want_of_memory, reply_of}
 use Rattle.desk_model.specs.DeskTables.{DeskTables, IsSound}
 use Rattle.desk_model.specs.Commands.{DeskStep, command_step, IsTyped, IsAsked, TellsChange}
 use Rattle.desk_model.specs.Items.{items_of}
+use Rattle.desk_model.specs.Kept.{AreItemsAfter}
 use Rattle.desk_model.specs.Verdicts.{verdict_at}
 use Rattle.desk_model.specs.Sessions.{Session, Answered, command_in, AllowedReply, AllowedVerdict, later, verdict_in, frame_in, is_of_keeper}
 use Rattle.desk_model.proofs.ToldSteps.{commands_told}
@@ -102,6 +104,19 @@ step_reaches books now change (Ok s) planned told =
     batch_reaches s.changes (desk_of books) s.desk change.batch told.same planned.batch ∙ ap items_of (sym planned.leads)
 step_reaches books now change (Err refusal) planned told = absurd planned
 
+step_leads : (books : Books) (change : PlannedChange) (items : List Item) (step : DeskStep) → IsOkAnd step (λ s. IsPlanned s books change) → items ≡ items_of (desk_after change (desk_of books)) → AreItemsAfter step items
+step_leads books change items (Ok s) planned reaches = reaches ∙ ap items_of planned.leads
+step_leads books change items (Err refusal) planned reaches = absurd planned
+
+batch_stays : (changes : Bool) (before after : DeskTables) (batch : List Put) → (changes ≡ false → after ≡ before) → IsBatchOf changes before after batch → batch ≡ [] → after ≡ before
+batch_stays true before after batch same kept none = absurd (let e = subst (λ (puts : List Put). IsTrue (is_batch puts)) none kept.batch in cc)
+batch_stays false before after batch same none empty = same refl
+
+step_stays : (books : Books) (now : ℕ) (change : PlannedChange) (step : DeskStep) → IsOkAnd step (λ s. IsPlanned s books change) → IfOk step (TellsChange (desk_of books) now) → change.batch ≡ []
+    → desk_after change (desk_of books) ≡ desk_of books
+step_stays books now change (Ok s) planned told none = planned.leads ∙ batch_stays s.changes (desk_of books) s.desk change.batch told.same planned.batch none
+step_stays books now change (Err refusal) planned told none = absurd planned
+
 step_ready : (books : Books) (change : PlannedChange) (step : DeskStep) → IsOkAnd step (λ s. IsPlanned s books change) → IsReady books change
 step_ready books change (Ok s) planned = planned.ready
 step_ready books change (Err refusal) planned = absurd planned
@@ -122,6 +137,21 @@ module _ (before mid : DeskState) (command : Command) (n : ℕ) (same : tables_o
       ap (λ (desk : DeskTables). put_all (items_of desk) change.batch) (sym same)
       ∙ step_reaches mid.books n change (command_step (tables_of before) n command) planned
       (subst (λ (desk : DeskTables). IfOk (command_step (tables_of before) n command) (TellsChange desk n)) (sym same) (commands_told (tables_of before) sound command n (record { typed = typed; asked = asked })))
+
+  -- which are the items of the step
+  pub leads : (change : PlannedChange) → IsPlannedIn change → IsSound (tables_of before) → IsTyped command → IsAsked command
+      → AreItemsAfter (command_step (tables_of before) n command) (put_all (items_of (tables_of before)) change.batch)
+  unfolding tables_of
+  leads change planned sound typed asked =
+      step_leads mid.books change (put_all (items_of (tables_of before)) change.batch) (command_step (tables_of before) n command) planned (reaches change planned sound typed asked)
+
+  -- where nothing is put, the desk is as before
+  pub stays : (change : PlannedChange) → IsPlannedIn change → IsSound (tables_of before) → IsTyped command → IsAsked command → change.batch ≡ []
+      → desk_after change (tables_of mid) ≡ tables_of before
+  unfolding tables_of
+  stays change planned sound typed asked none =
+      step_stays mid.books n change (command_step (tables_of before) n command) planned
+      (subst (λ (desk : DeskTables). IfOk (command_step (tables_of before) n command) (TellsChange desk n)) (sym same) (commands_told (tables_of before) sound command n (record { typed = typed; asked = asked }))) none ∙ same
 
   module _ (flows : mid.flows ≡ before.flows) (now : ℕ) (is : n ≡ max before.moment now) where
     history : mid.flows.history ≡ before.flows.history

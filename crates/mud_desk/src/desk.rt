@@ -1,5 +1,6 @@
 //! The desk, and the keeper that it keeps its lists in.
-ghost use Rattle.std.specs.Prelude.{◌≡◌, ℕ, ◌+◌, ◌-◌, ◌^◌, ◌<◌, ◌≤◌, max, [], List, Ok, IfOk, IfErr, length};
+ghost use Rattle.std.specs.Prelude.{◌≡◌, ◌⊎◌, ℕ, ◌+◌, ◌-◌, ◌^◌, ◌<◌, ◌≤◌, max, [], List, Ok, IfOk, IfErr, length};
+ghost use Rattle.mud_world.specs.declared.item.Item.{Item};
 ghost use Rattle.mud_world.specs.Kept.{faults_of, Tells, kept_items, Rests};
 ghost use Rattle.mud_world.specs.Causes.{Counts};
 ghost use Rattle.table_model.specs.Things.{thing_at};
@@ -8,7 +9,7 @@ ghost use Rattle.packet_judge.specs.Verdicts.{steps_on};
 ghost use Rattle.desk_model.specs.DeskTables.{IsSound};
 ghost use Rattle.desk_model.specs.Commands.{IsAsked, command_step};
 ghost use Rattle.desk_model.specs.Items.{none_kept};
-ghost use Rattle.desk_model.specs.Keeping.{KeepsDesk};
+ghost use Rattle.desk_model.specs.Keeping.{KeepsDesk, KeepsSame};
 ghost use Rattle.desk_model.specs.Sessions as sessions;
 ghost use Rattle.desk_model.specs.Sessions.{AllowedReply, AllowedVerdict, verdict_in, is_of_keeper};
 ghost use Rattle.desk_model.specs.Verdicts.{policy_at};
@@ -18,7 +19,7 @@ ghost use Rattle.mud_desk.specs.Items.Opening.{IsFaultOf};
 ghost use Rattle.mud_desk.specs.RuleInputs.{rows_read, ruling_steps};
 ghost use Rattle.mud_desk.specs.Findings.{AreFindingsOn};
 ghost use Rattle.mud_desk.specs.DeskState.{tables_of, session_of, AreRulesOf};
-ghost use Rattle.desk_model.specs.Kept.{IsKept};
+ghost use Rattle.desk_model.specs.Kept.{AreItemsAfter, IsKept};
 ghost use Rattle.mud_desk.specs.Stays.{StaysKept};
 ghost use Rattle.mud_desk.specs.Answers.{is_fault_of_keeper, StaysUnlessDone, IsLeft, IsPaidOnce, IsReadOnce};
 
@@ -70,7 +71,7 @@ impl<K: Keeper> Desk<K> {
             → KeepsDesk (kept_items ⟦<K as Keeper>⟧ keeper) (tables_of desk.state)) }
         ensures told { IfOk result (λ desk. Tells ⟦<K as Keeper>⟧ desk.keeper → Tells ⟦<K as Keeper>⟧ keeper) }
         ensures sound { IfOk result (λ desk. IsSound (tables_of desk.state)) }
-        ensures rests { IfOk result (λ desk. Tells ⟦<K as Keeper>⟧ desk.keeper → Rests ⟦<K as Keeper>⟧ desk.keeper) }
+        ensures rests { IfOk result (λ desk. Rests ⟦<K as Keeper>⟧ desk.keeper) }
         ensures kept { IfOk result (λ desk. IsKept ⟦<K as Keeper>⟧ desk.keeper (tables_of desk.state)) }
         ensures begun { IfOk result (λ desk. session_of desk.state ≡ sessions.opened (tables_of desk.state)) }
         ensures steady { IfOk result (λ desk. faults_of ⟦<K as Keeper>⟧ desk.keeper ≡ faults_of ⟦<K as Keeper>⟧ keeper) }
@@ -81,6 +82,8 @@ impl<K: Keeper> Desk<K> {
         ensures left { Tells ⟦<K as Keeper>⟧ keeper → IfErr result (λ refusal. Tells ⟦<K as Keeper>⟧ refusal.1
             → IsLeft (kept_items ⟦<K as Keeper>⟧ keeper) (kept_items ⟦<K as Keeper>⟧ refusal.1) refusal.0) }
         ensures untold { IfErr result (λ refusal. Tells ⟦<K as Keeper>⟧ refusal.1 → Tells ⟦<K as Keeper>⟧ keeper) }
+        ensures crash { Tells ⟦<K as Keeper>⟧ keeper → IfErr result (λ refusal. (list : List Item) → K.left refusal.1 list
+            → K.left keeper list ⊎ KeepsSame (kept_items ⟦<K as Keeper>⟧ keeper) list) }
         ensures cause { IfErr result (λ refusal. Counts (is_fault_of_keeper refusal.0) (faults_of ⟦<K as Keeper>⟧ keeper) (faults_of ⟦<K as Keeper>⟧ refusal.1)) }
     {
         let mut keeper = keeper;
@@ -139,6 +142,9 @@ impl<K: Keeper> Desk<K> {
         requires asked { IsAsked command }
         ensures answer { AllowedReply (session_of self.old.state) now command result (session_of self.new.state) }
         ensures stays { StaysKept ⟦<K as Keeper>⟧ self.old self.new }
+        // A crash behind it leaves what it could leave before, or the items of the lists that the command leads to.
+        ensures crash { (list : List Item) → K.left self.new.keeper list → K.left self.old.keeper list
+            ⊎ AreItemsAfter (command_step (tables_of self.old.state) (max self.old.state.moment now) command) list }
         // What is compiled of the lists isn't made anew for a refusal, a failure of the keeper or want of memory.
         ensures compiled { StaysUnlessDone result self.old.state.books.compiled self.new.state.books.compiled }
         ensures cause { Counts (is_of_keeper result) (faults_of ⟦<K as Keeper>⟧ self.old.keeper) (faults_of ⟦<K as Keeper>⟧ self.new.keeper) }

@@ -16,11 +16,10 @@ pub(crate) fn keep_batch<K: Keeper>(keeper: &mut K, batch: &[Put]) -> Result<(),
     ensures ok { Tells ⟦<K as Keeper>⟧ keeper.new → OnOk result (kept_items ⟦<K as Keeper>⟧ keeper.new ≡ put_all (kept_items ⟦<K as Keeper>⟧ keeper.old) batch.now) }
     ensures err { Tells ⟦<K as Keeper>⟧ keeper.new → OnErr result (kept_items ⟦<K as Keeper>⟧ keeper.new ≡ kept_items ⟦<K as Keeper>⟧ keeper.old) }
     ensures some { OnErr result (batch.now ≢ []) }
-    ensures tried { OnErr result (IsTrue (is_batch batch.now)) }
     ensures none { batch.now ≡ [] → keeper.new ≡ keeper.old }
-    ensures crash { Tells ⟦<K as Keeper>⟧ keeper.new → (list : List Item) → K.left keeper.new list
-        → K.left keeper.old list ⊎ (list ≡ put_all (kept_items ⟦<K as Keeper>⟧ keeper.old) batch.now) }
-    ensures rests { Tells ⟦<K as Keeper>⟧ keeper.new → OnOk result (batch.now ≢ [] → Rests ⟦<K as Keeper>⟧ keeper.new) }
+    ensures crash { (list : List Item) → K.left keeper.new list → K.left keeper.old list
+        ⊎ (Tells ⟦<K as Keeper>⟧ keeper.old × (list ≡ put_all (kept_items ⟦<K as Keeper>⟧ keeper.old) batch.now)) }
+    ensures rests { OnOk result (batch.now ≢ [] → Rests ⟦<K as Keeper>⟧ keeper.new) }
     ensures opened { IsOpen ⟦<K as Keeper>⟧ keeper.new }
     ensures cause { Counts (has_failed result) (faults_of ⟦<K as Keeper>⟧ keeper.old) (faults_of ⟦<K as Keeper>⟧ keeper.new) }
 {

@@ -20,6 +20,6 @@ module _ {K : Type 0} (members : Ghosts K) where
   abbrev pub IsOpen : K → Type 0
   IsOpen keeper = IsTrue (members.opened keeper)
 
-  -- whatever a crash leaves at this moment, the next run finds the items that the keeper tells
+  -- where a crash leaves anything at this moment, the keeper tells its items, and they are what it leaves
   abbrev pub Rests : K → Type 0
-  Rests keeper = (list : List Item) → members.left keeper list → list ≡ members.items keeper
+  Rests keeper = (list : List Item) → members.left keeper list → members.tells keeper × (list ≡ members.items keeper)

@@ -23,7 +23,8 @@ pub trait Keeper: Drop {
     /// Whether an `open` has answered Ok.
     ghost opened: { Self → Bool };
 
-    /// A crash at this moment may leave these items, for the next run to find.
+    /// A crash at this moment may leave these items, for the next run to find, also where a failure shut
+    /// the keeper, which then tells nothing.
     ghost left: { Self → List Item → Type 0 };
 
     /// How often a call has failed.
@@ -37,10 +38,9 @@ pub trait Keeper: Drop {
         ensures ordered { tells self.new → IsOrdered (items self.new) }
         ensures same { tells self.new → items self.new ≡ items self.old }
         ensures told { tells self.new → tells self.old }
-        ensures crash { tells self.new
-            → (list : List Item) → left self.new list → left self.old list ⊎ (list ≡ items self.new) }
-        ensures rests { tells self.new
-            → OnOk result ((list : List Item) → left self.new list → list ≡ items self.new) }
+        ensures crash { tells self.old
+            → (list : List Item) → left self.new list → left self.old list ⊎ (list ≡ items self.old) }
+        ensures rests { OnOk result ((list : List Item) → left self.new list → tells self.new × (list ≡ items self.new)) }
         ensures opened { OnOk result (opened self.new ≡ true) }
         ensures still { OnErr result (opened self.new ≡ opened self.old) }
         ensures count { faults self.new ≡ counted (has_failed result) (faults self.old) }
@@ -56,10 +56,9 @@ pub trait Keeper: Drop {
         ensures ordered { tells self.new → IsOrdered (items self.new) }
         ensures ok { tells self.new → OnOk result (items self.new ≡ put_all (items self.old) batch.now) }
         ensures err { tells self.new → OnErr result (items self.new ≡ items self.old) }
-        ensures crash { tells self.new
-            → (list : List Item) → left self.new list → left self.old list ⊎ (list ≡ put_all (items self.old) batch.now) }
-        ensures rests { tells self.new
-            → OnOk result ((list : List Item) → left self.new list → list ≡ items self.new) }
+        ensures crash { (list : List Item) → left self.new list
+            → left self.old list ⊎ (tells self.old × (list ≡ put_all (items self.old) batch.now)) }
+        ensures rests { OnOk result ((list : List Item) → left self.new list → tells self.new × (list ≡ items self.new)) }
         ensures opened { opened self.new ≡ opened self.old }
         ensures count { faults self.new ≡ counted (has_failed result) (faults self.old) }
         ensures cause { Counts (has_failed result) (faults self.old) (faults self.new) };

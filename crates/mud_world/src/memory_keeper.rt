@@ -98,7 +98,7 @@ impl Keeper for MemoryKeeper {
         ensures ordered { IsOrdered self.new.items.rows }
         ensures same { self.new.items.rows ≡ self.old.items.rows }
         ensures crash { (list : List Item) → list ≡ self.new.items.rows
-            → (list ≡ self.old.items.rows) ⊎ (list ≡ self.new.items.rows) }
+            → (list ≡ self.old.items.rows) ⊎ (list ≡ self.old.items.rows) }
         ensures opened { OnOk result (has_opened self.new ≡ true) }
         ensures still { OnErr result (has_opened self.new ≡ has_opened self.old) }
         ensures fails { has_failed result ≡ open_fails self.old }
@@ -124,7 +124,7 @@ impl Keeper for MemoryKeeper {
         ensures ok { OnOk result (self.new.items.rows ≡ put_all self.old.items.rows batch.now) }
         ensures err { OnErr result (self.new.items.rows ≡ self.old.items.rows) }
         ensures crash { (list : List Item) → list ≡ self.new.items.rows
-            → (list ≡ self.old.items.rows) ⊎ (list ≡ put_all self.old.items.rows batch.now) }
+            → (list ≡ self.old.items.rows) ⊎ (Unit {0} × (list ≡ put_all self.old.items.rows batch.now)) }
         ensures opened { has_opened self.new ≡ has_opened self.old }
         ensures fails { has_failed result ≡ apply_fails self.old }
         ensures count { self.new.count ≡ counted (has_failed result) self.old.count }

@@ -130,16 +130,19 @@ module _ {K : Type 0} (members : Ghosts K) where
 module _ {K : Type 0} (members : Ghosts K) (keeper after : K) (tells : Type 0) (old new : DoorView) (status : ℕ) where
   unopened : (fault : OpenFault) → (Tells members after → IsFaultOf (kept_items members after) fault)
       → (Tells members keeper → Tells members after → IsLeft (kept_items members keeper) (kept_items members after) fault)
+      → (Tells members keeper → (list : List Item) → members.left after list → members.left keeper list ⊎ KeepsSame (kept_items members keeper) list)
       → IsRefusal fault status → IsUnopened members keeper after status
-  unopened fault named left is = record {
+  unopened fault named left crash is = record {
     statuses = refusal_status fault status is;
     bad = λ which tell. bad_where_told (kept_items members after) fault status (named tell) is which;
     same = λ before now. left_same (kept_items members keeper) (kept_items members after) fault (left before now);
+    crash = crash;
   }
 
   pub runs_refused : (fault : OpenFault)
       → (Tells members after → IsFaultOf (kept_items members after) fault)
       → (Tells members keeper → Tells members after → IsLeft (kept_items members keeper) (kept_items members after) fault)
+      → (Tells members keeper → (list : List Item) → members.left after list → members.left keeper list ⊎ KeepsSame (kept_items members keeper) list)
       → Counts (is_fault_of_keeper fault) (faults_of members keeper) (faults_of members after)
       → (Tells members after → Tells members keeper)
       → IsRefusal fault status
@@ -149,7 +152,7 @@ module _ {K : Type 0} (members : Ghosts K) (keeper after : K) (tells : Type 0) (
       → (tells → (status ≡ 4) ⊎ (status ≡ 5) → WroteFirst (refusal_text fault) old.state new.state)
       → (IsOfCall fault → new.state ≡ old.state)
       → new.turns ≡ old.turns → new.reads ≡ old.reads → RunsRefused members tells keeper after old new status
-  runs_refused fault bad left counts back is failed steady done part untouched turns reads = record {
+  runs_refused fault bad left crash counts back is failed steady done part untouched turns reads = record {
     honest = record {
       statuses = refusal_status fault status is;
       fault = failed;
@@ -161,7 +164,7 @@ module _ {K : Type 0} (members : Ghosts K) (keeper after : K) (tells : Type 0) (
       keeper_steady = steady_of fault status (faults_of members keeper) (faults_of members after) is counts;
       same = λ before now. left_same (kept_items members keeper) (kept_items members after) fault (left before now);
       same_items = λ six before now. same_items_of (kept_items members keeper) (kept_items members after) fault status is (left before now) six;
-      kept = inr (unopened fault bad left is);
+      kept = inr (unopened fault bad left crash is);
     };
     refuses = λ told tell. refuses_by old.state new.state status (kept_items members after) fault (bad tell) is (done told) (part told) untouched;
     wrote = λ told. wrote_text old.state new.state status fault is (done told) (part told) untouched;

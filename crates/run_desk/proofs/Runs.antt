@@ -31,7 +31,7 @@ module _ {K : Type 0} (members : Ghosts K) (keeper after : K) (tells : Type 0) (
   pub opened_over : (tables : DeskTables)
       → (Tells members keeper → Tells members after → KeepsDesk (kept_items members keeper) tables)
       → IsSound tables → IsKept members after tables → faults_of members after ≡ faults_of members keeper
-      → (Tells members after → Tells members keeper) → (Tells members after → Rests members after)
+      → (Tells members after → Tells members keeper) → Rests members after
       → IsOfCapture status
       → (status ≡ 4 → EndsAtFailure new.failed old.reads new.reads old.writes new.writes)
       → (status ≢ 4 → (new.reads ≡ old.reads) × (new.writes ≡ old.writes))

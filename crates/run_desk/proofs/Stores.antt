@@ -56,7 +56,7 @@ module _ {K : Type 0} (members : Ghosts K) (keeper : K) where
 
 module _ {K : Type 0} (members : Ghosts K) (keeper after : K) (status : ℕ) where
   -- a desk was opened, and nothing was asked of its keeper
-  pub leaves_opened : (tables : DeskTables) → (Tells members after → Rests members after)
+  pub leaves_opened : (tables : DeskTables) → Rests members after
       → (Tells members keeper → Tells members after → KeepsDesk (kept_items members keeper) tables)
       → IsSound tables → IsKept members after tables → faults_of members after ≡ faults_of members keeper → status ≢ 6
       → LeavesStore members keeper after status

@@ -43,11 +43,13 @@ module _ {K : Type 0} (members : Ghosts K) where
     pub sound : IsSound tables
     pub kept : IsKept members keeper tables
 
-  -- No desk was opened: the items are as they were, or keep the same desk. The status is 4 or 6 only where an item is no record.
+  -- No desk was opened: the items are as they were, or keep the same desk, and a crash leaves what it could leave before, or such items.
+  -- The status is 4 or 6 only where an item is no record.
   pub record IsUnopened (keeper returned : K) (status : ℕ) : Type 0 where
     pub statuses : IsOneOf each_refusal status
     pub bad : IsOneOf (DoorFailed ∷ BadItem ∷ []) status → Tells members returned → (item : Item) × IsFirstBad (kept_items members returned) item
     pub same : Tells members keeper → Tells members returned → KeepsSame (kept_items members keeper) (kept_items members returned)
+    pub crash : Tells members keeper → (list : List Item) → members.left returned list → members.left keeper list ⊎ KeepsSame (kept_items members keeper) list
 
   -- No desk was opened: what is written goes by the items that are kept. They are as they were, or keep the same desk.
   pub record IsRefused (keeper returned : K) (old new : DoorState) (status : ℕ) : Type 0 where
@@ -62,7 +64,7 @@ module _ {K : Type 0} (members : Ghosts K) where
     pub same : Tells members keeper → Tells members returned → KeepsSame (kept_items members keeper) (kept_items members returned)
     pub same_items : Is BadItem status → Tells members keeper → Tells members returned → kept_items members returned ≡ kept_items members keeper
     -- Whatever the status, the items of sound tables are kept, but where no desk was opened. A crash then leaves these items.
-    pub kept : (KeepsTables returned × (Tells members returned → Rests members returned)) ⊎ IsUnopened keeper returned status
+    pub kept : (KeepsTables returned × Rests members returned) ⊎ IsUnopened keeper returned status
 
   -- A run over a store that reads a capture. `tells` says that the door tells its connections.
   pub record ReadsByStore {S : Type 0} (output : DeskTables → List ℕ → Output) (step : S → Packet → LineStep S) (from : DeskTables → S) (tells : Type 0) (keeper returned : K) (old new : DoorView) (status : ℕ) : Type 0 where

@@ -34,7 +34,7 @@ module _ {K : Type 0} (members : Ghosts K) (keeper after : K) (tells : Type 0) w
   pub memory_none : (view : DoorView) (tables : DeskTables)
       → (Tells members keeper → Tells members after → KeepsDesk (kept_items members keeper) tables)
       → IsSound tables → IsKept members after tables → faults_of members after ≡ faults_of members keeper
-      → (Tells members after → Tells members keeper) → (Tells members after → Rests members after)
+      → (Tells members after → Tells members keeper) → Rests members after
       → (returned : K) → returned ≡ after → ServesNone members tells keeper returned view view 5
   memory_none view tables read sound kept same_count back rests returned same =
       subst (λ (it : K). ServesNone members tells keeper it view view 5) (sym same) (record {

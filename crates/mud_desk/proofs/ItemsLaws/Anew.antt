@@ -1,5 +1,5 @@
 -- Things of version 1 are put anew, one after the other, in the items of a desk.
-use Rattle.std.proofs.Common.{◌≡◌, ℕ, zero, suc, ◌+◌, ◌≤◌, ◌<◌, cond, ◌&&◌, ◌==◌, List, [], ◌∷◌, ◌++◌, map, length, take, drop, get_or, slice_get, Option, Some, None, Ok, refl, sym, ap, subst, ◌∙◌, arith, add-one, lit<, length-append, append_assoc}
+use Rattle.std.proofs.Common.{◌≡◌, ◌⊎◌, inl, inr, ℕ, zero, suc, ◌+◌, ◌≤◌, ◌<◌, cond, ◌&&◌, ◌==◌, List, [], ◌∷◌, ◌++◌, map, length, take, drop, get_or, slice_get, Option, Some, None, Ok, refl, sym, ap, subst, ◌∙◌, arith, add-one, lit<, length-append, append_assoc}
 use Rattle.std.specs.Prelude.{option_map}
 use Rattle.std.specs.List.{AllByRecursion}
 use Rattle.std.proofs.Math.Seq.{drop-cons, drop-append_seam}
@@ -9,6 +9,8 @@ use Rattle.item_codec.specs.Records.{◌>>=◌}
 use Rattle.mud_world.specs.declared.item.Item.{Item}
 use Rattle.mud_world.specs.declared.item.Put.TheVariants.{Set}
 use Rattle.mud_world.specs.Items.{sort_key_of, put_one, put_all, IsOrdered}
+use Rattle.mud_world.specs.declared.keeper.Keeper.{Ghosts}
+use Rattle.mud_world.specs.Kept.{Tells, kept_items, Rests}
 use Rattle.table_model.specs.declared.thing.Thing.{Thing}
 use Rattle.table_model.specs.Tables.{binds_of}
 use Rattle.table_model.specs.ThingItems.{thing_item, thing_items, thing_of, thing_in, item_anew, in_second}
@@ -171,6 +173,18 @@ partly_anew items now desk octets read i e = record {
   keeps = keeps_read items desk octets read;
   still = keeps_anew items now desk i e (keeps_read items desk octets read);
 }
+
+-- what a crash leaves, where one more item wasn't put anew
+module _ {K : Type 0} (members : Ghosts K) (first keeper after : K) (items : List Item) (i : ℕ) (item : Item) (desk : DeskTables) (octets : AllByRecursion HasOctets items) (read : tables_in items ≡ Ok desk)
+    (within : i < length items) (is : item ≡ get_or items i item) where
+  pub partly_left : (Tells members keeper → Tells members first) → (Tells members keeper → kept_items members keeper ≡ in_second_version (take i items) ++ drop i items)
+      → (Tells members keeper → IsOrdered (kept_items members keeper)) → Rests members keeper
+      → ((found : List Item) → members.left after found → members.left keeper found ⊎ (Tells members keeper × PutsAnew item (kept_items members keeper) found))
+      → (found : List Item) → members.left after found → Tells members first × IsPartlyAnew items found
+  partly_left told now ordered rests crash found left = elim (crash found left) [
+    | inl was ↦ (told (rests found was).0, partly_anew items found desk octets read i ((rests found was).1 ∙ now (rests found was).0))
+    | inr put ↦ (told put.0, partly_anew items found desk octets read (i + 1) (one_anew items i item (kept_items members keeper) found within is (now put.0) (ordered put.0) put.1))
+  ]
 
 -- ---- Octets
 

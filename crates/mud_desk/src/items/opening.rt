@@ -1,5 +1,5 @@
 //! A keeper is opened, and its items are read and, where they are of an earlier version, put anew.
-ghost use Rattle.std.specs.Prelude.{◌≡◌, true, false, IsTrue, IfOk, IfErr, OnOk, OnErr};
+ghost use Rattle.std.specs.Prelude.{◌≡◌, ◌⊎◌, List, true, false, IsTrue, IfOk, IfErr, OnOk, OnErr};
 ghost use Rattle.std.specs.List.{AllByRecursion};
 ghost use Rattle.mud_world.specs.Causes.{Counts};
 ghost use Rattle.mud_world.specs.Items.{has_failed, IsOrdered};
@@ -7,8 +7,9 @@ ghost use Rattle.mud_base.specs.Numbers.{IsOctets};
 ghost use Rattle.table_model.specs.ThingItems.{in_second};
 ghost use Rattle.desk_model.specs.DeskTables.{IsSound};
 ghost use Rattle.desk_model.specs.Items.{none_kept, items_of, tables_in};
-ghost use Rattle.desk_model.specs.Keeping.{KeepsDesk};
+ghost use Rattle.desk_model.specs.Keeping.{KeepsDesk, KeepsSame};
 ghost use Rattle.mud_world.specs.Kept.{Rests};
+ghost use Rattle.mud_world.specs.declared.item.Item.{Item};
 ghost use Rattle.mud_desk.specs.Items.Loaded.{kept_of, loaded_desk};
 ghost use Rattle.mud_desk.specs.Items.Opening.{has_keeper_failed, HasOctets, IsFaultOf, IsOfCall, IsPartlyAnew, Leaves, PutsAnew};
 
@@ -38,8 +39,11 @@ pub fn open_items<K: Keeper>(
     ensures sound { IfOk result (λ loaded. IsSound (loaded_desk loaded)) }
     ensures kept { K.tells keeper.new
         → IfOk result (λ loaded. K.items keeper.new ≡ items_of (loaded_desk loaded)) }
-    // What a crash leaves then, the next opening finds.
-    ensures rests { K.tells keeper.new → OnOk result (Rests ⟦<K as Keeper>⟧ keeper.new) }
+    // What a crash leaves then, the next opening finds; after an error that, what a crash could leave
+    // before, or the items of the same desk.
+    ensures rests { OnOk result (Rests ⟦<K as Keeper>⟧ keeper.new) }
+    ensures crash { K.tells keeper.old → OnErr result ((list : List Item) → K.left keeper.new list
+        → K.left keeper.old list ⊎ KeepsSame (K.items keeper.old) list) }
     // An item is named where it is the first that is no record, and else the desk isn't opened for a
     // failure of the keeper or for want of memory.
     ensures bad { K.tells keeper.new → IfErr result (IsFaultOf (K.items keeper.new)) }
@@ -59,7 +63,9 @@ fn opened_items<K: Keeper>(keeper: &mut K, alloc: Global) -> Result<Listed<Item>
     ensures ordered { K.tells keeper.new → IsOrdered (K.items keeper.new) }
     ensures same { K.tells keeper.new → K.items keeper.new ≡ K.items keeper.old }
     ensures told { K.tells keeper.new → K.tells keeper.old }
-    ensures rests { K.tells keeper.new → OnOk result (Rests ⟦<K as Keeper>⟧ keeper.new) }
+    ensures crash { K.tells keeper.old
+        → (list : List Item) → K.left keeper.new list → K.left keeper.old list ⊎ (list ≡ K.items keeper.old) }
+    ensures rests { OnOk result (Rests ⟦<K as Keeper>⟧ keeper.new) }
     ensures opened { OnOk result (K.opened keeper.new ≡ true) }
     ensures still { OnErr result (K.opened keeper.new ≡ K.opened keeper.old) }
     ensures cause { Counts (has_failed result) (K.faults keeper.old) (K.faults keeper.new) }
@@ -112,12 +118,14 @@ fn put_things_anew<K: Keeper>(
     requires opened { IsTrue (K.opened keeper.old) }
     requires items { K.tells keeper.old → K.items keeper.old ≡ list.now }
     requires ordered { K.tells keeper.old → IsOrdered (K.items keeper.old) }
-    requires rests { K.tells keeper.old → Rests ⟦<K as Keeper>⟧ keeper.old }
+    requires rests { Rests ⟦<K as Keeper>⟧ keeper.old }
     requires read { tables_in list.now ≡ Ok (loaded_desk loaded.now) }
     ensures told { K.tells keeper.new → K.tells keeper.old }
     ensures ok { K.tells keeper.new → OnOk result (K.items keeper.new ≡ items_of (loaded_desk loaded.now)) }
     ensures err { K.tells keeper.new → OnErr result (IsPartlyAnew list.now (K.items keeper.new)) }
-    ensures rests { K.tells keeper.new → OnOk result (Rests ⟦<K as Keeper>⟧ keeper.new) }
+    ensures rests { OnOk result (Rests ⟦<K as Keeper>⟧ keeper.new) }
+    ensures crash { OnErr result ((found : List Item) → K.left keeper.new found
+        → K.tells keeper.old × IsPartlyAnew list.now found) }
     ensures call { IfErr result IsOfCall }
     ensures opened { K.opened keeper.new ≡ K.opened keeper.old }
     ensures cause { Counts (has_keeper_failed result) (K.faults keeper.old) (K.faults keeper.new) }
@@ -138,7 +146,9 @@ fn put_anew<K: Keeper>(keeper: &mut K, item: &Item, anew: Item) -> Result<(), Ke
     ensures told { K.tells keeper.new → K.tells keeper.old }
     ensures ordered { K.tells keeper.new → IsOrdered (K.items keeper.old) → IsOrdered (K.items keeper.new) }
     ensures ok { K.tells keeper.new → OnOk result (PutsAnew item.now (K.items keeper.old) (K.items keeper.new)) }
-    ensures rests { K.tells keeper.new → OnOk result (Rests ⟦<K as Keeper>⟧ keeper.old → Rests ⟦<K as Keeper>⟧ keeper.new) }
+    ensures crash { (found : List Item) → K.left keeper.new found
+        → K.left keeper.old found ⊎ (K.tells keeper.old × PutsAnew item.now (K.items keeper.old) found) }
+    ensures rests { OnOk result (Rests ⟦<K as Keeper>⟧ keeper.old → Rests ⟦<K as Keeper>⟧ keeper.new) }
     ensures err { K.tells keeper.new → OnErr result (K.items keeper.new ≡ K.items keeper.old) }
     ensures opened { K.opened keeper.new ≡ K.opened keeper.old }
     ensures cause { Counts (has_failed result) (K.faults keeper.old) (K.faults keeper.new) }

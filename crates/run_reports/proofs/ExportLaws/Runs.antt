@@ -51,7 +51,7 @@ module _ {K : Type 0} (members : Ghosts K) (keeper after : K) (mac : Mac) (tells
   pub opened_run : (tables : DeskTables)
       → (Tells members keeper → Tells members after → KeepsDesk (kept_items members keeper) tables)
       → IsSound tables → IsKept members after tables → faults_of members after ≡ faults_of members keeper
-      → (Tells members after → Tells members keeper) → (Tells members after → Rests members after)
+      → (Tells members after → Tells members keeper) → Rests members after
       → IsOfDesk status
       → (status ≡ 4 → StopsAtFailure new.failed old.writes new.writes)
       → (status ≢ 4 → new.writes ≡ old.writes)

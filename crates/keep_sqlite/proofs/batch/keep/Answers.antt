@@ -1,11 +1,19 @@
 use Rattle.std.proofs.Common.{◌≡◌, true, [], inr, rules, IsTrue, ap, subst, ◌∙◌}
 use Rattle.sqlite.specs.Held.{state}
-use Rattle.sqlite.specs.State.{HasCleanDisk}
+use Rattle.sqlite.specs.State.{HasCleanDisk, Survives}
 use Rattle.keep_sqlite.specs.Rows.{HoldsItems}
 use Rattle.keep_sqlite.specs.Batches.{Reaches}
 use Rattle.keep_sqlite.proofs.Opens.{if_err_map}
+use Rattle.keep_sqlite.proofs.Crashes.{survives_batch, IsBatchLeft}
 use Rattle.keep_sqlite.proofs.Steps.{commit_refused}
 use Rattle.keep_sqlite.proofs.batch.keep.Goals as goal
+
+pub returns-clause-crash : goal.returns-clause-crash
+returns-clause-crash g c =
+    let left : Survives (state g.S.Store c.args.connection.now) (state g.S.Store c.commit.new.self.0) (IsBatchLeft g.S.Store c.args.connection.now c.args.batch.now) =
+    survives_batch g.S.Store c.args.connection.now c.transaction-tx.result.conn.now c.put_each.new.tx.conn.now c.commit.new.self.0 c.args.batch.now c.transaction-tx.ensures.begun c.put_each.ensures.crash
+    c.in_ok-put_each.ensures.ok c.requires.holds c.commit.ensures.survives in
+    search rules
 
 pub returns-clause-refused : goal.returns-clause-refused
 returns-clause-refused g c clean =

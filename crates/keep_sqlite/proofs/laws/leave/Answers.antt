@@ -1,9 +1,10 @@
 use Rattle.std.proofs.Common.{◌≡◌, ◌⊎◌, refl, subst, sym}
 use Rattle.sqlite.specs.Files.{over_files}
 use Rattle.sqlite.specs.Held.{state}
+use Rattle.sqlite.specs.State.{HasCleanDisk}
 use Rattle.keep_sqlite.specs.Telling.{Leaves, LeavesEither, MayBeLeft}
 use Rattle.keep_sqlite.proofs.LeftItems.{left_next}
-use Rattle.keep_sqlite.proofs.Reopens.{found_next, one_of}
+use Rattle.keep_sqlite.proofs.Reopens.{clean_before, found_next, one_of}
 use Rattle.keep_sqlite.proofs.laws.leave.Goals as goal
 
 pub returns-clause-found : goal.returns-clause-found
@@ -22,4 +23,10 @@ pub returns-clause-next : goal.returns-clause-next
 returns-clause-next g c clean =
     let e = c.into_store.ensures in
     left_next c.into_store.result (MayBeLeft over_files c.args.keeper) (e.numbered clean) (e.sound clean) (λ db sound recovered.
-    (db, sound, subst (λ keeper. (state over_files keeper.connection).may_leave db.trees) c.keeper.view_is (e.quiet.outcomes db.trees recovered), refl))
+    record {
+      clean = subst (λ keeper. HasCleanDisk (state over_files keeper.connection)) c.keeper.view_is (clean_before _ _ e.quiet.clean clean);
+      db = db;
+      sound = sound;
+      left = subst (λ keeper. (state over_files keeper.connection).may_leave db.trees) c.keeper.view_is (e.quiet.outcomes db.trees recovered);
+      items = refl;
+    })

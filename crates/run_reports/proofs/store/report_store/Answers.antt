@@ -33,5 +33,5 @@ returns-in-Err-clause-reported g c =
     let run = c.refuse_store.ensures in
     refused_report g.K.Keeper c.args.keeper c.in-Err.keeper c.args.kind door.tells clock.tells (clock.moments c.args.clock.now) (door.view old) (door.view new) (status_number c.refuse_store.result)
     (runs_refused g.K.Keeper c.args.keeper c.in-Err.keeper door.tells (door.view old) (door.view new) (status_number c.refuse_store.result)
-    c.in-Err.fault store.bad store.left store.cause store.untold
+    c.in-Err.fault store.bad store.left store.crash store.cause store.untold
     run.statuses run.fault run.steady run.done run.part (λ call. ap (λ d. (door.view d).state) (run.untouched call)) run.turns run.reads)

@@ -44,6 +44,6 @@ returns-in-Err g c =
     (spool_viewed (spool.view c.args.spool.now).files (spool.view c.args.spool.now).faults (spool.view c.args.spool.now).failed) (clock.moments c.args.clock.now))
     (status_number c.refuse_store.result)
     (runs_refused g.K.Keeper c.args.keeper c.in-Err.keeper (door.tells × (spool.tells × clock.tells)) (door.view old) (door.view new) (status_number c.refuse_store.result)
-    c.in-Err.fault store.bad store.left store.cause store.untold
+    c.in-Err.fault store.bad store.left store.crash store.cause store.untold
     run.statuses run.fault run.steady (λ told. run.done told.0) (λ told. run.part told.0) (λ call. ap (λ d. (door.view d).state) (run.untouched call)) run.turns run.reads)
     refl refl

@@ -49,5 +49,5 @@ returns-in-Err-clause-replayed g c =
     (status_number c.refuse_store.result)
     (refused_none g.K.Keeper c.args.keeper c.in-Err.keeper door.tells (door.view old) (door.view new) (status_number c.refuse_store.result)
     (runs_refused g.K.Keeper c.args.keeper c.in-Err.keeper door.tells (door.view old) (door.view new) (status_number c.refuse_store.result)
-    c.in-Err.fault store.bad store.left store.cause store.untold
+    c.in-Err.fault store.bad store.left store.crash store.cause store.untold
     run.statuses run.fault run.steady run.done run.part (λ call. ap (λ d. (door.view d).state) (run.untouched call)) run.turns run.reads))

@@ -1,4 +1,4 @@
-use Rattle.std.proofs.Common.{◌≡◌, ◌≢◌, ◌-◌, [], List, refl, sym, subst, ap, ◌∙◌, arith}
+use Rattle.std.proofs.Common.{◌≡◌, ◌≢◌, ◌-◌, inl, [], List, refl, sym, subst, ap, ◌∙◌, arith}
 use Rattle.std.specs.Prelude.{max}
 use Rattle.mud_world.specs.declared.item.Put.{Put}
 use Rattle.mud_world.specs.Causes.{Counts}
@@ -12,9 +12,9 @@ use Rattle.desk_model.specs.Sessions.{AllowedReply, is_of_keeper}
 use Rattle.desk_model.specs.Commands.{command_step}
 use Rattle.mud_desk.specs.Answers.{IsReadOnce}
 use Rattle.mud_desk.specs.DeskState.{tables_of, session_of}
-use Rattle.mud_desk.proofs.Sessions.{reaches, done, refused, failed, wanted, never_of_keeper}
+use Rattle.mud_desk.proofs.Sessions.{reaches, leads, stays, done, refused, failed, wanted, never_of_keeper}
 use Rattle.mud_desk.proofs.Keepers.{kept_after}
-use Rattle.mud_desk.proofs.Stays.{stays_untold, stays_unput}
+use Rattle.mud_desk.proofs.Stays.{left_behind, stays_untold, stays_unput, LeavesAfter, LeavesBatch}
 use Rattle.mud_desk.proofs.Payments.{paid, planned_only, undone, read_done, unread}
 use Rattle.mud_desk.proofs.desk.Desk.command.Goals as goal
 
@@ -70,13 +70,23 @@ returns-in-Err-clause-stays g c = stays_untold g.K.Keeper refl c.in-Err.ensures.
 
 pub returns-in-Err-Failed-clause-stays : goal.returns-in-Err-Failed-clause-stays
 returns-in-Err-Failed-clause-stays g c =
+    let before = c.args.self.now.state in
     let kept = c.in-Err-Failed.ensures in
-    stays_unput g.K.Keeper c.batch.result.now kept.tried kept.opened kept.told kept.err kept.crash c.in-Ok.ensures.same c.requires.kept
+    stays_unput g.K.Keeper c.later-now.result c.args.command kept.opened kept.told kept.err
+    (left_behind g.K.Keeper c.args.self.now.keeper c.keep_batch.new.keeper (tables_of before) (command_step (tables_of before) c.later-now.result c.args.command) c.in-Ok.change.batch c.requires.kept
+    (leads before c.plan.new.self c.args.command c.later-now.result c.in-Ok.ensures.same c.in-Ok.change c.in-Ok.ensures.ok c.in-Ok.ensures.sound c.command_fits.ensures c.requires.asked)
+    (subst (LeavesBatch g.K.Keeper c.args.self.now.keeper c.keep_batch.new.keeper) c.batch.ensures kept.crash))
+    c.in-Ok.ensures.same c.requires.kept
 
 pub returns-in-Err-Memory-clause-stays : goal.returns-in-Err-Memory-clause-stays
 returns-in-Err-Memory-clause-stays g c =
+    let before = c.args.self.now.state in
     let kept = c.in-Err-Memory.ensures in
-    stays_unput g.K.Keeper c.batch.result.now kept.tried kept.opened kept.told kept.err kept.crash c.in-Ok.ensures.same c.requires.kept
+    stays_unput g.K.Keeper c.later-now.result c.args.command kept.opened kept.told kept.err
+    (left_behind g.K.Keeper c.args.self.now.keeper c.keep_batch.new.keeper (tables_of before) (command_step (tables_of before) c.later-now.result c.args.command) c.in-Ok.change.batch c.requires.kept
+    (leads before c.plan.new.self c.args.command c.later-now.result c.in-Ok.ensures.same c.in-Ok.change c.in-Ok.ensures.ok c.in-Ok.ensures.sound c.command_fits.ensures c.requires.asked)
+    (subst (LeavesBatch g.K.Keeper c.args.self.now.keeper c.keep_batch.new.keeper) c.batch.ensures kept.crash))
+    c.in-Ok.ensures.same c.requires.kept
 
 pub returns-clause-stays : goal.returns-clause-stays
 returns-clause-stays g c =
@@ -89,9 +99,40 @@ returns-clause-stays g c =
           (λ tells. kept.ok tells ∙ ap (put_all (kept_items g.K.Keeper c.args.self.now.keeper)) c.batch.ensures)
           put
           (λ none. kept.none (c.batch.ensures ∙ none))
-          (λ some tells. kept.rests tells (subst (λ (puts : List Put). puts ≢ []) (sym c.batch.ensures) some));
+          (λ none. c.commit.ensures.desk ∙ stays before c.plan.new.self c.args.command c.later-now.result c.in-Ok.ensures.same c.in-Ok.change c.in-Ok.ensures.ok c.in-Ok.ensures.sound c.command_fits.ensures c.requires.asked none)
+          (λ some. kept.rests (subst (λ (puts : List Put). puts ≢ []) (sym c.batch.ensures) some));
       told = kept.told;
     }
+
+pub returns-in-Err-clause-crash : goal.returns-in-Err-clause-crash
+returns-in-Err-clause-crash g c list left = inl left
+
+pub returns-in-Err-Failed-clause-crash : goal.returns-in-Err-Failed-clause-crash
+returns-in-Err-Failed-clause-crash g c =
+    let before = c.args.self.now.state in
+    let is : c.later-now.result ≡ max before.moment c.args.now = c.later-now.ensures ∙ ap (λ m. max m c.args.now) c.moment.ensures in
+    subst (LeavesAfter g.K.Keeper c.args.self.now.keeper c.keep_batch.new.keeper (tables_of before) c.args.command) is
+    (left_behind g.K.Keeper c.args.self.now.keeper c.keep_batch.new.keeper (tables_of before) (command_step (tables_of before) c.later-now.result c.args.command) c.in-Ok.change.batch c.requires.kept
+    (leads before c.plan.new.self c.args.command c.later-now.result c.in-Ok.ensures.same c.in-Ok.change c.in-Ok.ensures.ok c.in-Ok.ensures.sound c.command_fits.ensures c.requires.asked)
+    (subst (LeavesBatch g.K.Keeper c.args.self.now.keeper c.keep_batch.new.keeper) c.batch.ensures c.in-Err-Failed.ensures.crash))
+
+pub returns-in-Err-Memory-clause-crash : goal.returns-in-Err-Memory-clause-crash
+returns-in-Err-Memory-clause-crash g c =
+    let before = c.args.self.now.state in
+    let is : c.later-now.result ≡ max before.moment c.args.now = c.later-now.ensures ∙ ap (λ m. max m c.args.now) c.moment.ensures in
+    subst (LeavesAfter g.K.Keeper c.args.self.now.keeper c.keep_batch.new.keeper (tables_of before) c.args.command) is
+    (left_behind g.K.Keeper c.args.self.now.keeper c.keep_batch.new.keeper (tables_of before) (command_step (tables_of before) c.later-now.result c.args.command) c.in-Ok.change.batch c.requires.kept
+    (leads before c.plan.new.self c.args.command c.later-now.result c.in-Ok.ensures.same c.in-Ok.change c.in-Ok.ensures.ok c.in-Ok.ensures.sound c.command_fits.ensures c.requires.asked)
+    (subst (LeavesBatch g.K.Keeper c.args.self.now.keeper c.keep_batch.new.keeper) c.batch.ensures c.in-Err-Memory.ensures.crash))
+
+pub returns-clause-crash : goal.returns-clause-crash
+returns-clause-crash g c =
+    let before = c.args.self.now.state in
+    let is : c.later-now.result ≡ max before.moment c.args.now = c.later-now.ensures ∙ ap (λ m. max m c.args.now) c.moment.ensures in
+    subst (LeavesAfter g.K.Keeper c.args.self.now.keeper c.keep_batch.new.keeper (tables_of before) c.args.command) is
+    (left_behind g.K.Keeper c.args.self.now.keeper c.keep_batch.new.keeper (tables_of before) (command_step (tables_of before) c.later-now.result c.args.command) c.in-Ok.change.batch c.requires.kept
+    (leads before c.plan.new.self c.args.command c.later-now.result c.in-Ok.ensures.same c.in-Ok.change c.in-Ok.ensures.ok c.in-Ok.ensures.sound c.command_fits.ensures c.requires.asked)
+    (subst (LeavesBatch g.K.Keeper c.args.self.now.keeper c.keep_batch.new.keeper) c.batch.ensures c.in-Ok-keep_batch.ensures.crash))
 
 pub returns-clause-steps : goal.returns-clause-steps
 returns-clause-steps g c =

@@ -9,7 +9,7 @@ invariant-loop-index g l = record {
   told : Tells g.K.Keeper l.keeper → Tells g.K.Keeper l.initial.keeper;
   items : Tells g.K.Keeper l.keeper → kept_items g.K.Keeper l.keeper ≡ in_second_version (take l.index l.list) ++ drop l.index l.list;
   ordered : Tells g.K.Keeper l.keeper → IsOrdered (kept_items g.K.Keeper l.keeper);
-  rests : Tells g.K.Keeper l.keeper → Rests g.K.Keeper l.keeper;
+  rests : Rests g.K.Keeper l.keeper;
   opened : IsOpen g.K.Keeper l.keeper;
   steady : faults_of g.K.Keeper l.keeper ≡ faults_of g.K.Keeper l.initial.keeper;
 }

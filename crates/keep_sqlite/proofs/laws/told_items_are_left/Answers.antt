@@ -1,0 +1,7 @@
+use Rattle.std.proofs.Common.{rules}
+use Rattle.keep_sqlite.proofs.LeftItems.{told_left}
+use Rattle.keep_sqlite.proofs.laws.told_items_are_left.Goals as goal
+
+pub returns : goal.returns
+returns g c none =
+    told_left g.S.Store c.args.keeper.now (λ trees is_open may. g.met.S.Store.settled c.args.keeper.now.connection.store trees is_open may) (search rules) (search rules)

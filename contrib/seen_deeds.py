@@ -31,6 +31,8 @@ SEVERAL = -1
 DEFAULTS = "default"
 # how many connections are remembered before those that are silent are forgotten, and how many packets in fragments
 ROOM, PIECES = 1 << 18, 1 << 12
+# behind so many deeds an address isn't told from others any more
+DEEDS = 1 << 16
 LABEL = "[a-z0-9_](?:[a-z0-9_-]{0,61}[a-z0-9_])?"
 HOST = re.compile(rf"{LABEL}(?:\.{LABEL})*")
 
@@ -177,6 +179,9 @@ class Reader:
         """The deed of what was seen with a peer under its present name."""
         key = (version, peer, self.latest.get(peer), *what)
         deed = self.deeds.get(key)
+        if deed is None and len(self.deeds) >= DEEDS:
+            key = (version, None, *key[2:])
+            deed = self.deeds.get(key)
         if deed is None:
             deed = self.deeds[key] = Deed(self.now)
         return deed

@@ -209,6 +209,22 @@ class Reasons(Drafts):
         self.holds("all", "In the file: 0." in report and "Left out of the file: 40." in report)
 
 
+    def test_scan_of_addresses(self):
+        """Many addresses at one port are told together, and of a scan of more than are told apart the rest is one row."""
+        scene = Scene().connect("203.0.113.5", 443)
+        for last in range(40):
+            scene.put(True, f"198.51.100.{last}", 6, drafting.tcp(50001, 81, 2))
+        report = self.looked_at(scene.octets())[0]
+        self.holds("told together", re.search(r"198\.51\.100\.0/32.*\n    Left out: part of a scan.* The same of 39 more addresses, in 39 packets: numbers ", report), report)
+        self.note("rows", 1, report.count("to port 81 "))
+        for at in range(70000):
+            scene.put(True, f"100.{64 + (at >> 16)}.{at >> 8 & 255}.{at & 255}", 6, drafting.tcp(50002, 82, 2))
+        scene.name("late.example.net", "100.66.0.1", "100.66.0.2").connect("100.66.0.1", 443, own=1).connect("100.66.0.2", 443, own=2)
+        report = drafted(scene.octets(), "--dns", "192.168.1.1", "--with", "scan", "--with", "unanswered", "--with", "once")[2]
+        self.holds("the rest", re.search(r"to port 82 of any address, .*\n    Left out: .*one of more addresses than are told apart\.", report), report[-3000:])
+        self.holds("a name", re.search(r"(?m)^from .* of late\.example\.net, if.*\n    Seen 2 times", report), report[-3000:])
+
+
 class Meanings(Drafts):
     def test_names(self):
         """A name that is told after the first packet, two names of one address, and a name that is none."""
@@ -415,7 +431,8 @@ class Refusals(Drafts):
             row = re.search(rf"(?m)^.*{what}.*\n    (?:Left out: (.*?)\. Number [0-9]+\. )?(.*)$", report)
             told = [text for text in (reset, unreachable, silent) if text in row[2]]
             self.note(what, (reason, [said] if said else []), (row[1], told))
-        self.note("packets that are left out", 13 + 6, fates.count("left") + 0)
+        # the segments to port 81 and 82, the first one to 84, what went to 10, 11 and 5000, the ping, and six errors
+        self.note("packets that are left out", 2 + 1 + 1 + 3 + 1 + 6, fates.count("left"))
 
     def test_errors(self):
         """An error is tied to what it quotes, and has no entry of its own unless it is asked for."""

@@ -196,6 +196,11 @@ def announcement(mac, url):
     return bytes(message) + b"\xa1" + bytes([len(url)]) + url.encode() + b"\xff"
 
 
+def leased():
+    """A server's message that leases nothing."""
+    return bytes([2, 1, 6]) + bytes(233) + bytes.fromhex("63825363") + b"\xff"
+
+
 def fates(octets, options):
     """Of each packet what the draft says of it: a word, or what was found and whether it stands in the file; and all that
     was found."""
@@ -208,3 +213,15 @@ def fates(octets, options):
     strays = {id(deed) for key, deed in reader.deeds.items() if key[4] == "tcp" and key[5] is None and not deed.found.is_open}
     return [fate if fate is None or isinstance(fate, str) else "stray" if id(fate) in strays else "kept" if fate.found in kept else "left"
             for fate in taken], rows
+
+
+def idle(rows):
+    """The entries that may decide nothing of the capture: of a connection of which one direction isn't in it, and of a name
+    all of whose addresses have another one, too."""
+    for row in rows:
+        alike = [other for other in rows if other.places and other.key()[4:] == row.key()[4:] and (other.version, other.label[0]) == (row.version, "name")]
+        others = {peer for other in alike if other is not row for peer in other.deed.peers}
+        seen = {"from": row.deed.sent, "to": row.deed.packets - row.deed.sent}
+        for side, number in row.places.items():
+            if (row.kind == "tcp" and not seen[side]) or (row.label[0] == "name" and set(row.deed.peers) <= others):
+                yield side, number

@@ -225,8 +225,11 @@ class Reasons(Drafts):
         for at in range(70000):
             scene.put(True, f"100.{64 + (at >> 16)}.{at >> 8 & 255}.{at & 255}", 6, drafting.tcp(50002, 82, 2))
         scene.name("late.example.net", "100.66.0.1", "100.66.0.2").connect("100.66.0.1", 443, own=1).connect("100.66.0.2", 443, own=2)
-        report = drafted(scene.octets(), "--dns", "192.168.1.1", "--with", "scan", "--with", "unanswered", "--with", "once")[2]
-        self.holds("the rest", re.search(r"to port 82 of any address, .*\n    Left out: .*one of more addresses than are told apart\.", report), report[-3000:])
+        words = ("--dns", "192.168.1.1", "--with", "scan", "--with", "unanswered", "--with", "once")
+        report = drafted(scene.octets(), *words)[2]
+        rest = re.compile(r"(?m)^([0-9]+): .* to port 82 of any address, .*\n    Left out: .*one of more addresses than are told apart\.")
+        self.holds("the rest", rest.search(report), report[-3000:])
+        self.holds("the rest by its number", rest.search(drafted(scene.octets(), *words, "--with", rest.search(report)[1])[2]))
         self.holds("a name", re.search(r"(?m)^from .* of late\.example\.net, if.*\n    Seen 2 times", report), report[-3000:])
 
 
@@ -422,6 +425,10 @@ def refusing():
     scene.put(False, "2001:db8::1", 58, drafting.error(1, 4, "2001:db8::10", "2001:db8::5", 17, drafting.udp(50004, 11)))
     scene.put(True, "203.0.113.8", 1, b"\x08\0\0\0\0\1\0\1")
     scene.put(False, gate, 1, drafting.error(3, 1, mine, "203.0.113.8", 1, b"\x08\0\0\0\0\1\0\1"))
+    # a ping that is answered at last, and a reset of what nobody was seen to begin
+    scene.put(True, "2001:db8::8", 58, b"\x80\0\0\0\0\1\0\1").put(False, "2001:db8::8", 58, b"\x81\0\0\0\0\1\0\1")
+    scene.put(False, "2001:db8::1", 58, drafting.error(1, 3, "2001:db8::10", "2001:db8::8", 58, b"\x80\0\0\0\0\1\0\1"))
+    scene.put(False, "203.0.113.11", 6, drafting.tcp(85, 50007, 20))
     scene.put(False, lamp, 17, drafting.udp(50005, 5000)).put(True, lamp, 1, drafting.error(3, 3, lamp, mine, 17, drafting.udp(50005, 5000)))
     return scene.put(True, "203.0.113.9", 17, drafting.udp(50006, 514))
 
@@ -434,23 +441,29 @@ class Refusals(Drafts):
         for what, reason, said in (("port 81 ", "always refused", reset), ("port 82 ", "never answered", silent), ("port 83 ", None, None),
                                    ("port 84 ", "always refused", unreachable), ("port 9 ", None, silent), ("port 10 ", "always refused", unreachable),
                                    ("port 11 ", "always refused", unreachable), ("type 8 ", "always refused", unreachable),
+                                   ("type 128 ", None, None), ("port 85 ", "always refused", reset),
                                    ("its own port 5000 ", "always refused", unreachable), ("port 514 ", None, silent), ("port 443 ", None, None)):
             row = re.search(rf"(?m)^.*{what}.*\n    (?:Left out: (.*?)\. Number [0-9]+\. )?(.*)$", report)
             told = [text for text in (reset, unreachable, silent) if text in row[2]]
             self.note(what, (reason, [said] if said else []), (row[1], told))
-        # the segments to port 81 and 82, the first one to 84, what went to 10, 11 and 5000, the ping, and six errors
-        self.note("packets that are left out", 2 + 1 + 1 + 3 + 1 + 6, fates.count("left"))
+        # the segments to port 81, 82, 84 and of 85, what went to 10, 11 and 5000, a ping, and seven errors
+        self.note("packets that are left out", 2 + 1 + 1 + 1 + 3 + 1 + 7, fates.count("left"))
 
     def test_errors(self):
         """An error is tied to what it quotes, and has no entry of its own unless it is asked for."""
         octets = refusing().octets()
         file, report = drafted(octets)[1:]
-        self.holds("no entry for ICMP", b'"icmp"' not in file, file)
+        # that a ping is sent and answered stands in the file, and nothing else of ICMP
+        self.note("types in the file", ["128", "129"], re.findall('"type": ([0-9]+)', file.decode()))
         numbers = dict(re.findall(r"(?m)^([0-9]+): The Thing may not (.*)$", report))
         for number, words in numbers.items():
             if "(destination unreachable)" not in words:
                 continue
-            quoted = re.search(rf"(?m)^{number}: .*\n    Left out: an error of ICMP\. .* It quotes packets of (.*?)\.$", report)
+            quoted = re.search(rf"(?m)^{number}: .*\n    Left out: an error of ICMP\. .* What it quotes: (.*?)\.$", report)
+            if quoted[1].startswith(("from", "to")):
+                told = rf"(?m)^{quoted[1]}: .* of type 128 .*\n.* Errors of ICMP quote it: number {number}\."
+                self.holds("or what is in the file", re.search(told, report), quoted[1])
+                continue
             places = re.findall("number ([0-9]+)", quoted[1])
             self.holds("it quotes what is left out", places and all(place in numbers for place in places), quoted[1])
             for place in places:
@@ -468,10 +481,10 @@ class Refusals(Drafts):
         scene.put(False, "2001:db8::1", 58, drafting.error(3, 0, "2001:db8::10", "2001:db8::9", 17, ask)).put(False, gate, 1, b"\x0c\0\0\0")
         report = self.looked_at(scene.octets(), "--dns", gate)[0]
         self.note("in the file", ["from 1, to 1"], re.findall("(?m)^((?:from|to) [0-9].*?):", report))
-        for what, quoted in (("send ICMP of type 3 ", "packets of what is left to the defaults"), ("receive ICMP of type 11 ", "packets of from 1, to 1"),
+        for what, quoted in (("send ICMP of type 3 ", "what is left to the defaults"), ("receive ICMP of type 11 ", "from 1, to 1"),
                              ("receive ICMP of type 5 ", "nothing that was seen"), ("receive ICMPv6 of type 3 ", "nothing that was seen"),
                              ("receive ICMP of type 12 ", "nothing that was seen")):
-            said = re.search(rf"(?m)^[0-9]+: The Thing may not {what}.*\n    Left out: an error of ICMP\. .* It quotes (.*?)\.$", report)
+            said = re.search(rf"(?m)^[0-9]+: The Thing may not {what}.*\n    Left out: an error of ICMP\. .* (?:What it quotes:|It quotes) (.*?)\.$", report)
             self.note(what, quoted, said and said[1])
 
     def test_too_large(self):
@@ -482,11 +495,14 @@ class Refusals(Drafts):
         scene.put(False, "203.0.113.2", 1, drafting.error(3, 4, mine, "203.0.113.5", 6, drafting.tcp(50002, 22, 24)))
         scene.put(False, "2001:db8:2::1", 58, drafting.error(2, 0, "2001:db8::10", "2001:db8:1::5", 6, drafting.tcp(50003, 443, 24)))
         scene.put(False, "203.0.113.3", 1, drafting.error(3, 4, mine, "203.0.113.77", 6, drafting.tcp(50001, 443, 24)))
+        scene.ask("203.0.113.53", 53).put(False, "203.0.113.4", 1, drafting.error(3, 4, mine, "203.0.113.53", 17, drafting.udp(50000, 53)))
         octets = scene.wait(2 * DAY).connect("203.0.113.5", 443, own=50001).connect("2001:db8:1::5", 443, own=50003).octets()
         for words, left in (((), {"203.0.113.2", "203.0.113.3"}), (("--with", "management", "--with", "once"), {"203.0.113.3"}),
                             (("--with", "error"), {"203.0.113.2"})):
-            report = self.looked_at(octets, *words)[0]
+            report = self.looked_at(octets, "--dns", "203.0.113.53", *words)[0]
             self.note(" ".join(words), left, set(re.findall(r"(?m)^[0-9]+: .* of type 3 .*in (.*)/32\.$", report)))
+            told = r"(?m)^to [0-9]+: .* of type 3 .* in 203\.0\.113\.4/32\.\n.* What it quotes: what is left to the defaults"
+            self.holds("of the defaults", re.search(told, report), report)
             self.holds("its IPv6", re.search(r"(?m)^to [0-9]+: .* of type 2 .* in 2001:db8:2::1/128\.\n.* is told what is too large", report), report)
 
 

@@ -1,4 +1,5 @@
 """contrib/draft as a module, captures that are made for it, and what the manager says of them by a drafted file."""
+import contextlib
 import importlib.machinery
 import importlib.util
 import ipaddress
@@ -50,7 +51,11 @@ def reader_of(octets):
 
 
 def frames_of(octets):
-    return list(CAPTURES.frames(reader_of(octets)))
+    """The frames of a capture, up to where it is cut, each with its second."""
+    rows = []
+    with contextlib.suppress(CAPTURES.Cut):
+        rows.extend(CAPTURES.frames(reader_of(octets)))
+    return rows
 
 
 def drafted(octets, *words, mac=MAC, now=BEGIN):
@@ -79,6 +84,17 @@ def tcp(source, to, flags):
 
 def udp(source, to, data=b""):
     return struct.pack(">HHHH", source, to, 8 + len(data), 0) + data
+
+
+def error(kind, code, source, to, protocol, payload, cut=8):
+    """An error of ICMP that quotes a packet: its IP header, and so many octets behind it."""
+    packet = ip(source, to, protocol, payload)[1]
+    return struct.pack(">BBHI", kind, code, 0, 0) + packet[:(40 if ":" in source else 20) + cut]
+
+
+def tagged(frame, *vlans):
+    """A frame with VLAN tags."""
+    return frame[:12] + b"".join(struct.pack(">HH", 0x8100, vlan) for vlan in vlans) + frame[12:]
 
 
 def answer(name, *addresses):
@@ -131,6 +147,16 @@ class Scene:
     def octets(self):
         return program.capture(self.packets)
 
+    def sections(self):
+        """The same in pcapng."""
+        def block(kind, body):
+            body += bytes(-len(body) % 4)
+            return struct.pack("<2I", kind, 12 + len(body)) + body + struct.pack("<I", 12 + len(body))
+
+        rows = [(divmod(int(second) * 1000000, 1 << 32), frame) for second, frame in self.packets]
+        return (block(0x0A0D0D0A, struct.pack("<IHHq", 0x1A2B3C4D, 1, 0, -1)) + block(1, struct.pack("<HHI", 1, 0, 0))
+                + b"".join(block(6, struct.pack("<5I", 0, high, low, len(frame), len(frame)) + frame) for (high, low), frame in rows))
+
 
 # ---- The manager
 
@@ -170,13 +196,32 @@ def announcement(mac, url):
     return bytes(message) + b"\xa1" + bytes([len(url)]) + url.encode() + b"\xff"
 
 
+def leased():
+    """A server's message that leases nothing."""
+    return bytes([2, 1, 6]) + bytes(233) + bytes.fromhex("63825363") + b"\xff"
+
+
 def fates(octets, options):
-    """Of each packet what the draft says of it: a word, or what was found and whether it stands in the file."""
+    """Of each packet what the draft says of it: a word, or what was found and whether it stands in the file; and all that
+    was found."""
     reader = DEEDS.Reader(options.mac, [it.packed for it in options.dns], [it.packed for it in options.ntp])
     taken = [reader.take(second, frame) for second, frame in frames_of(octets)]
     rows = DRAFT.found_in(reader, DRAFT.Known(options.local or DRAFT.LOCAL, options.controller))
     DRAFT.give_reasons(rows, reader)
     kept = DRAFT.kept_of(rows, set(getattr(options, "with")))
+    DRAFT.drafted(URL, kept, BEGIN)
     strays = {id(deed) for key, deed in reader.deeds.items() if key[4] == "tcp" and key[5] is None and not deed.found.is_open}
     return [fate if fate is None or isinstance(fate, str) else "stray" if id(fate) in strays else "kept" if fate.found in kept else "left"
-            for fate in taken]
+            for fate in taken], rows
+
+
+def idle(rows):
+    """The entries that may decide nothing of the capture: of a connection of which one direction isn't in it, and of a name
+    all of whose addresses have another one, too."""
+    for row in rows:
+        alike = [other for other in rows if other.places and other.key()[4:] == row.key()[4:] and (other.version, other.label[0]) == (row.version, "name")]
+        others = {peer for other in alike if other is not row for peer in other.deed.peers}
+        seen = {"from": row.deed.sent, "to": row.deed.packets - row.deed.sent}
+        for side, number in row.places.items():
+            if (row.kind == "tcp" and not seen[side]) or (row.label[0] == "name" and set(row.deed.peers) <= others):
+                yield side, number

@@ -12,6 +12,9 @@ TCP, UDP, ICMP, ICMPV6 = 6, 17, 1, 58
 HOP_BY_HOP, ROUTING, FRAGMENT, DESTINATION = 0, 43, 44, 60
 TAGS, EXTENSIONS = 2, 8
 LONGEST_TTL = 2147483647
+# types of ICMP that quote the packet that they tell of, and how much of it they have at least
+ERRORS = {4: (3, 4, 5, 11, 12), 6: (1, 2, 3, 4)}
+QUOTED = {4: 28, 6: 48}
 ETHERNET = 1
 CLASSIC = {b"\xd4\xc3\xb2\xa1": "<", b"\x4d\x3c\xb2\xa1": "<", b"\xa1\xb2\xc3\xd4": ">", b"\xa1\xb2\x3c\x4d": ">"}
 SECTION, INTERFACE, SIMPLE, ENHANCED, OBSOLETE = 0x0A0D0D0A, 1, 3, 6, 2
@@ -146,14 +149,15 @@ def skip(octets, count):
 class Packet:
     """What a frame says. `part` is the part of it that can't be read, `version` that of an IP packet and else 0;
     `is_link` says that it isn't IP or keeps the link up, `later` that it is a later fragment, and `layer` is `tcp`,
-    `udp`, `icmp` or nothing. `pair` is the ports, or the type and code of ICMP. Addresses are in octets."""
+    `udp`, `icmp` or nothing. `pair` is the ports, or the type and code of ICMP. `vlans` is the numbers of its tags, and
+    `whole` tells the packet that it is a fragment of, or is None. Addresses are in octets."""
 
     __slots__ = ("frame", "kind", "part", "version", "is_link", "later", "protocol", "source", "destination", "layer", "pair",
-                 "flags", "at", "end")
+                 "flags", "at", "end", "vlans", "whole")
 
     def __init__(self, frame):
-        self.frame, self.kind, self.part, self.version = frame, 0, None, 0
-        self.is_link, self.later, self.layer, self.pair = False, False, None, None
+        self.frame, self.kind, self.part, self.version, self.vlans = frame, 0, None, 0, ()
+        self.is_link, self.later, self.layer, self.pair, self.whole = False, False, None, None, None
         self.source = self.destination = self.protocol = None
         size = len(frame)
         if size < 14:
@@ -164,6 +168,7 @@ class Packet:
             if tags == TAGS or size < at + 4:
                 self.part = "tag"
                 return
+            self.vlans += ((frame[at] & 15) << 8 | frame[at + 1],)
             kind, at, tags = frame[at + 2] << 8 | frame[at + 3], at + 4, tags + 1
         self.kind = kind
         if kind == IPV4:
@@ -188,6 +193,8 @@ class Packet:
             self.part = "ip"
             return
         self.version, self.source, self.destination = 4, source, destination
+        if fragment & 0x3FFF:
+            self.whole = (source, destination, self.protocol, self.frame[at + 4:at + 6])
         if fragment & 0x1FFF:
             self.later = True
             return
@@ -210,7 +217,11 @@ class Packet:
             if headers == EXTENSIONS or end < at + length:
                 self.part = "extension"
                 return
-            self.later = following == FRAGMENT and (self.frame[at + 2] << 8 | self.frame[at + 3]) >> 3 != 0
+            if following == FRAGMENT:
+                place = self.frame[at + 2] << 8 | self.frame[at + 3]
+                self.later = place >> 3 != 0
+                if place & 0xFFF9:
+                    self.whole = (source, destination, self.frame[at + 4:at + 8])
             following, at, headers = self.frame[at], at + length, headers + 1
             if self.later:
                 self.protocol = following
@@ -244,6 +255,20 @@ class Packet:
             return None
         length = self.frame[self.at + 4] << 8 | self.frame[self.at + 5]
         return (*self.pair, self.frame[self.at + 8:self.at + length]) if length <= self.end - self.at else None
+
+    def is_error(self):
+        """Whether it is ICMP that tells of another packet."""
+        return self.layer == "icmp" and self.pair[0] in ERRORS[self.version]
+
+    def quoted(self):
+        """The packet of which an ICMP error tells, or None where that can't be read. Its end may be cut."""
+        octets = self.frame[self.at + 8:self.end]
+        if len(octets) < QUOTED[self.version]:
+            return None
+        # of a TCP header the ports are there, and for the rest stands one without options
+        kind = IPV4 if self.version == 4 else IPV6
+        packet = Packet(bytes(12) + kind.to_bytes(2, "big") + octets + b"\x50" * 20)
+        return packet if packet.layer else None
 
     def __str__(self):
         """As 'mud frames' says it, of a packet that can be read."""

@@ -3,7 +3,7 @@
 A deed is what was seen of one kind with one address: connections that one side began to one port, datagrams of one
 server's port, one type of ICMP, or another protocol. A Reader takes frame by frame, and keeps for each deed how often
 and when it was seen. What belongs to a connection is told as the manager tells it: by its first SYN, until a reset
-or a long silence.
+or a long silence. An error of ICMP is a deed, too, and belongs to what it quotes.
 """
 import re
 import time
@@ -18,42 +18,68 @@ PAUSE = 600
 SLOT = 900
 NIGHT = range(0, 6)
 DNS, NTP, DHCP = 53, 123, 67
-FIN, SYN, RST, ACK = 1, 2, 4, 16
-# how many connections are remembered before those that are silent are forgotten
-ROOM = 1 << 18
+SYN, RST, ACK = 2, 4, 16
+# types of ICMP: by IP version a ping and its answer, and what says that a packet wasn't delivered
+PING, PONG = {4: (8, 0), 6: (128, 0)}, {4: (0, 0), 6: (129, 0)}
+UNDELIVERED = {4: 3, 6: 1}
+# which errors say that a packet is too large for its way
+TOO_LARGE = {(4, (3, 4)), (6, (2, 0))}
+RESET, UNREACHABLE = "reset", "unreachable"
+# of what is seen from several ports of the side that isn't the server's
+SEVERAL = -1
+# what an error quotes that has no deed
+DEFAULTS = "default"
+# how many connections are remembered before those that are silent are forgotten, and how many packets in fragments
+ROOM, PIECES = 1 << 18, 1 << 12
+# behind so many deeds an address isn't told from others any more
+DEEDS = 1 << 16
 LABEL = "[a-z0-9_](?:[a-z0-9_-]{0,61}[a-z0-9_])?"
 HOST = re.compile(rf"{LABEL}(?:\.{LABEL})*")
 
 
 class Deed:
-    """How often and when something was seen. Of what was seen with several addresses `peers` is these, each with whether
-    it answered, and `unbegun` how many segments stand beside it that no SYN began. Of what was seen with one, `found`
-    is with what others it stands in the file, and `server` who was seen to answer a SYN. `refused` says that it was reset."""
+    """How often and when something was seen, and `sent` how many of its packets the Thing sent. Of what was seen with
+    several addresses `peers` is these, each with whether it answered, and `unbegun` how many segments stand beside it
+    that no SYN began. Of what was seen with one, `found` is with what others it stands in the file, and `server` who was
+    seen to answer a SYN. `refused` says by what it was refused, `quotes` of which deeds it tells, `pieces` how many later
+    fragments belong to it, and `client` from which port the side spoke that isn't the server's."""
 
-    __slots__ = ("packets", "times", "first", "last", "slots", "slot", "answered", "peers", "unbegun", "found", "server", "refused")
+    __slots__ = ("packets", "sent", "times", "first", "last", "slots", "slot", "answered", "peers", "unbegun", "found", "server",
+                 "refused", "quotes", "pieces", "client")
 
     def __init__(self, now):
-        self.packets, self.times, self.first, self.last = 0, 0, now, now
+        self.packets, self.sent, self.times, self.first, self.last = 0, 0, 0, now, now
         self.slots, self.slot, self.answered, self.peers, self.unbegun = set(), None, False, {}, 0
-        self.found, self.server, self.refused = None, None, False
+        self.found, self.server, self.pieces, self.client = None, None, 0, None
+        self.refused, self.quotes = frozenset(), frozenset()
 
-    def sight(self, now):
+    def sight(self, now, is_sent):
         """A packet of it."""
         self.packets += 1
+        self.sent += is_sent
         self.last = now
         slot = now // SLOT
         if slot != self.slot:
             self.slot = slot
             self.slots.add(slot)
 
+    def speaks(self, port):
+        """The side that isn't the server's speaks from this port."""
+        self.client = port if self.client in (None, port) else SEVERAL
+
     def add(self, other, peer):
         """Takes in another one, with one address."""
         self.packets += other.packets
+        self.sent += other.sent
         self.times += other.times
         self.first, self.last = min(self.first, other.first), max(self.last, other.last)
         self.slots |= other.slots
         self.answered |= other.answered
         self.refused |= other.refused
+        self.quotes |= other.quotes
+        self.pieces += other.pieces
+        if other.client is not None:
+            self.speaks(other.client)
         self.peers[peer] = self.peers.get(peer, False) or other.answered
 
     def days(self):
@@ -79,10 +105,11 @@ class Reader:
         self.mac = bytes.fromhex(mac.replace(":", ""))
         self.dns, self.ntp = frozenset(dns), frozenset(ntp)
         self.deeds, self.streams, self.datagrams, self.room = {}, {}, {}, ROOM
+        self.wholes, self.vlans = {}, set()
         self.names, self.latest, self.resolvers = {}, {}, set()
         self.now = self.first = None
         self.slots, self.servers = set(), {DNS: set(), NTP: set()}
-        self.counts = dict.fromkeys(("sent", "received", "link", "default", "fragment", "unreadable"), 0)
+        self.counts = dict.fromkeys(("sent", "received", "tagged", "link", "default", "fragment", "unreadable"), 0)
 
     def take(self, seconds, frame):
         """Takes a frame; answers the deed that it is of, or the word by which it is counted, or None where it isn't the
@@ -96,24 +123,34 @@ class Reader:
         self.now = max(self.now, seconds)
         self.slots.add(self.now // SLOT)
         packet = captures.Packet(frame)
-        word = self.word_of(packet)
+        if packet.vlans:
+            self.counts["tagged"] += 1
+            self.vlans.update(packet.vlans)
+        word = self.word_of(packet) or (DEFAULTS if self.is_default(packet, is_sent) else None)
+        if not is_sent and packet.layer == "udp" and packet.pair[0] == DNS:
+            self.hear_names(packet)
         if word:
             self.counts[word] += 1
             return word
-        if not is_sent and packet.layer == "udp" and packet.pair[0] == DNS:
-            self.hear_names(packet)
-        if self.is_default(packet, is_sent):
-            self.counts["default"] += 1
-            return "default"
         deed = self.deed_of(packet, is_sent)
-        deed.sight(self.now)
+        deed.sight(self.now, is_sent)
+        if packet.whole:
+            self.remember(packet.whole, deed)
         return deed
 
     def word_of(self, packet):
         """By what a packet is counted that no entry speaks of."""
         if packet.part:
             return "unreadable"
+        if packet.later and packet.whole in self.wholes:
+            self.wholes[packet.whole].pieces += 1
         return "link" if packet.is_link else "fragment" if packet.later else None
+
+    def remember(self, whole, deed):
+        """Remembers of which deed the first fragment of a packet was."""
+        self.wholes[whole] = deed
+        if len(self.wholes) > PIECES:
+            del self.wholes[next(iter(self.wholes))]
 
     def is_default(self, packet, is_sent):
         """Whether the default entries let it pass."""
@@ -142,6 +179,9 @@ class Reader:
         """The deed of what was seen with a peer under its present name."""
         key = (version, peer, self.latest.get(peer), *what)
         deed = self.deeds.get(key)
+        if deed is None and len(self.deeds) >= DEEDS:
+            key = (version, None, *key[2:])
+            deed = self.deeds.get(key)
         if deed is None:
             deed = self.deeds[key] = Deed(self.now)
         return deed
@@ -159,7 +199,39 @@ class Reader:
                 self.forget()
             take = self.segment if packet.layer == "tcp" else self.datagram
             return take(version, ends, is_sent, packet.flags if packet.layer == "tcp" else 0)
-        return self.at_times(self.deed_at(version, peer, "", *self.plain(packet, is_sent)))
+        deed = self.at_times(self.deed_at(version, peer, "", *self.plain(packet, is_sent)))
+        if packet.layer == "icmp":
+            self.tie(packet, deed, peer, is_sent)
+        return deed
+
+    def tie(self, packet, deed, peer, is_sent):
+        """Ties an answer to a ping, or an error, to what it is of."""
+        side, other = (FROM, TO) if is_sent else (TO, FROM)
+        if packet.pair == PONG[packet.version]:
+            ping = self.deeds.get((packet.version, peer, self.latest.get(peer), "", "icmp", other, PING[packet.version]))
+            if ping:
+                ping.answered = True
+        elif packet.is_error():
+            told, began = self.told_of(packet.quoted(), is_sent)
+            deed.quotes |= {told} - {None}
+            is_refusal = packet.pair[0] == UNDELIVERED[packet.version] and (packet.version, packet.pair) not in TOO_LARGE
+            if told and is_refusal and began not in (None, side):
+                told.refused |= {UNREACHABLE}
+
+    def told_of(self, quoted, is_sent):
+        """The deed of the packet that an error quotes, and who began it; of what is left to the defaults a word."""
+        if quoted is None:
+            return None, None
+        # who sends the error has received the packet, or was on its way
+        if self.is_default(quoted, not is_sent):
+            return DEFAULTS, None
+        own, peer = (quoted.destination, quoted.source) if is_sent else (quoted.source, quoted.destination)
+        if quoted.layer == "icmp":
+            began = TO if is_sent else FROM
+            return self.deeds.get((quoted.version, peer, self.latest.get(peer), "", "icmp", began, quoted.pair)), began
+        table = self.streams if quoted.layer == "tcp" else self.datagrams
+        flow = table.get((own, peer, *(quoted.pair[::-1] if is_sent else quoted.pair)))
+        return flow[:2] if flow else (None, None)
 
     def plain(self, packet, is_sent):
         """What a packet without ports is of; where a group is sent TCP, that is told as a protocol."""
@@ -189,11 +261,13 @@ class Reader:
             return self.stray(version, ends, is_sent, flags)
         deed, began, _, _ = stream
         stream[2], stream[3] = self.now, True
+        if not flags & RST:
+            # whoever goes on behind the first SYN had an answer, or gives it
+            deed.answered = True
+            return deed
         if is_sent == (began == TO):
-            deed.answered |= not flags & RST
-            deed.refused |= bool(flags & RST)
-        if flags & RST:
-            del self.streams[ends]
+            deed.refused |= {RESET}
+        del self.streams[ends]
         return deed
 
     def stray(self, version, ends, is_sent, flags):
@@ -201,7 +275,10 @@ class Reader:
         deed = self.at_times(self.deed_at(version, ends[1], "", "tcp", None, ends[2:]))
         if flags & (SYN | ACK) == SYN | ACK:
             deed.server = TO if is_sent else FROM
-        deed.answered = True
+        if flags & RST:
+            deed.refused |= {RESET}
+        else:
+            deed.answered = True
         return deed
 
     def datagram(self, version, ends, is_sent, _):
@@ -211,6 +288,7 @@ class Reader:
             sender, receiver = ends[2:] if is_sent else ends[:1:-1]
             began = FROM if is_sent == (rank(receiver) <= rank(sender)) else TO
             deed = self.deed_at(version, ends[1], "", "udp", began, ends[3] if began == FROM else ends[2])
+            deed.speaks(ends[2] if began == FROM else ends[3])
             self.datagrams[ends] = flow = [deed, began, None]
         deed, began, last = flow
         if last is None or self.now - last >= PAUSE:

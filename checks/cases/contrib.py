@@ -49,7 +49,8 @@ class Texts(Contrib):
         for name, unit, words in (("mud.service", "mud.service", PROGRAM),
                                   ("mud-listen@.service", "mud-listen@br0.service", os.path.abspath("contrib/listen")),
                                   ("mud-rules.service", "mud-rules.service", os.path.abspath("contrib/nft-rules")),
-                                  ("mud-metrics.service", "mud-metrics.service", os.path.abspath("contrib/metrics"))):
+                                  ("mud-metrics.service", "mud-metrics.service", os.path.abspath("contrib/metrics")),
+                                  ("mud-fetch.service", "mud-fetch.service", os.path.abspath("contrib/fetch"))):
             text = re.sub("^ExecStart=[^ \n]*", f"ExecStart={words}", texts.read("contrib/" + name), flags=re.M)
             # what loads rules needn't be there
             text = re.sub(r"^(Exec\w+=\+)/usr/sbin/nft", rf"\1{words}", text, flags=re.M)
@@ -58,7 +59,7 @@ class Texts(Contrib):
             self.note(f"verify {unit}, words", b"", ended.out + ended.errors)
             # the threshold is ten times the figure
             self.status(f"security {unit}", 0, "systemd-analyze", "security", "--offline=true", "--threshold=40", path)
-        for name in ("mud-rules.timer", "mud-metrics.timer"):
+        for name in ("mud-rules.timer", "mud-metrics.timer", "mud-fetch.timer"):
             timer = self.put(name, read("contrib/" + name))
             self.note(f"verify {name}", (0, b""), run("verify", "--man=no", timer, program="systemd-analyze")[::2])
 

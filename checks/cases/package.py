@@ -12,8 +12,8 @@ from checks.program import read, run
 
 MESSAGE = "examples/dhcp/dhclient-dnsmasq-01-discover.bin"
 COPIED = "Makefile VERSION CHANGELOG.md docs man contrib examples packaging".split()
-MOVED = {"mud.bash-completion": "usr/share/bash-completion/completions/mud", "mud.logrotate": "etc/logrotate.d/mud", "mud.sysusers": "usr/lib/sysusers.d/mud.conf"}
-UNITS = ["mud-listen@.service", "mud-metrics.service", "mud-metrics.timer", "mud-rules.service", "mud-rules.timer", "mud.service"]
+MOVED = {"fetch.conf": "etc/mud/fetch.conf", "mud.bash-completion": "usr/share/bash-completion/completions/mud", "mud.logrotate": "etc/logrotate.d/mud", "mud.sysusers": "usr/lib/sysusers.d/mud.conf"}
+UNITS = ["mud-fetch.service", "mud-fetch.timer", "mud-listen@.service", "mud-metrics.service", "mud-metrics.timer", "mud-rules.service", "mud-rules.timer", "mud.service"]
 
 
 # in a root of its own over the machine's: a package of before, the store as a dynamic user leaves it, and then this

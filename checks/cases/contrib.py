@@ -7,7 +7,6 @@ environment that dnsmasq gives, 'feed' what a capture has, and its live verdicts
 import json
 import os
 import re
-import subprocess
 import time
 import urllib.request
 
@@ -154,7 +153,7 @@ class Told(Contrib):
     def dnsmasq(self, *words, **variables):
         """What dnsmasq's script writes, with these words, and variables whose names begin with DNSMASQ_."""
         more = {f"DNSMASQ_{name}": value for name, value in variables.items()}
-        ended = run("contrib/dnsmasq-script", *words, program="sh", env={**self.environment, **more})
+        ended = run(*words, program="contrib/dnsmasq-script", env={**self.environment, **more})
         return ended.out + ended.errors
 
     def test_dnsmasq(self):
@@ -171,6 +170,8 @@ class Told(Contrib):
         self.note("add, an IPv6 lease", [("2001:db8::77", 300)], self.leased(mac))
         self.note("add, of an unknown hardware address", b"", self.dnsmasq("add", "00:03:00:01:02:00:00:00:00:0c", "2001:db8::78", IAID="1"))
         self.note("another word", b"", self.dnsmasq("init"))
+        self.holds("a URL that is none doesn't keep the lease from being told", b'"rule"' not in self.dnsmasq("old", mac, "192.0.2.78", MUD_URL="http://x/", TIME_REMAINING="300"))
+        self.note("the lease", [("192.0.2.78", 300)], [row for row in self.leased(mac) if row[0] == "192.0.2.78"])
 
     def test_feed(self):
         """Of day-micro.pcap: two Things announce themselves, lease, and ask the server that is bound for names."""

@@ -6,7 +6,6 @@ said otherwise; no server is asked twice in an hour.
 """
 import hashlib
 import json
-import os
 import subprocess
 import time
 import unittest

@@ -73,7 +73,8 @@ def files_below(folder):
 
 def of_contrib():
     """The files of contrib/, each with its mode."""
-    return [(name, "755" if os.access("contrib/" + name, os.X_OK) else "644") for name in os.listdir("contrib") if os.path.isfile("contrib/" + name)]
+    paths = [path.removeprefix("contrib/") for path in texts.files("contrib/*", "contrib/*/*") if os.path.isfile(path)]
+    return [(path, "755" if os.access("contrib/" + path, os.X_OK) else "644") for path in paths]
 
 
 def of_examples(folder):

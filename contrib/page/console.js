@@ -23,14 +23,22 @@ const RULES = {
   member: "A field has another form than it has to have:",
 };
 // what each listing has to look like: '?' may be null
-const LEASE = { address: "string", until: "number?" };
-const FILE = { fetched: "number", hours: "number", sha256: "string", update: "number" };
+const LEASE = {
+  address: "string",
+  until: "number?"
+};
+const FILE = {
+  fetched: "number",
+  hours: "number",
+  sha256: "string",
+  update: "number"
+};
 const SHAPES = {
-  things: [{ mac: "string", url: "string", pending: "string?", held: "boolean", leases: [LEASE] }],
-  files: [{ url: "string", approved: [FILE, null], candidate: [FILE, null] }],
-  classes: [{ addresses: ["string"] }],
+  things: [{mac: "string", url: "string", pending: "string?", held: "boolean", leases: [LEASE]}],
+  files: [{url: "string", approved: [FILE, null], candidate: [FILE, null]}],
+  classes: [{addresses: ["string"]}],
   locals: ["string"],
-  names: [{ name: "string", addresses: [LEASE] }],
+  names: [{name: "string", addresses: [LEASE]}],
   due: ["string"],
 };
 export const LISTINGS = Object.keys(SHAPES);
@@ -47,19 +55,23 @@ export class Fault extends Error {
 function has(value, shape) {
   if (Array.isArray(shape) && shape[1] === null) return value === null || has(value, shape[0]);
   if (Array.isArray(shape)) return Array.isArray(value) && value.every((one) => has(one, shape[0]));
-  if (typeof shape === "string") return (shape.endsWith("?") && value === null) || typeof value === shape.replace("?", "");
-  return value !== null && typeof value === "object" && Object.entries(shape).every(([name, part]) => has(value[name], part));
+  if (typeof shape === "string")
+    return (shape.endsWith("?") && value === null) || typeof value === shape.replace("?", "");
+  return value !== null && typeof value === "object" &&
+    Object.entries(shape).every(([name, part]) => has(value[name], part));
 }
 
 function wordsOf(status, answer) {
   const said = [answer.rule, answer.url?.rule].filter((rule) => typeof rule === "string");
-  const words = said.length ? RULES[said[0]] ?? `The manager refuses it: ${said.join(" ")}.` : SITE[status] ?? `It was answered ${status}.`;
+  const words = said.length ? RULES[said[0]] ?? `The manager refuses it: ${said.join(" ")}.` :
+                              SITE[status] ?? `It was answered ${status}.`;
   return answer.member ? `${words} ${answer.member}` : words;
 }
 
 async function asked(path, words) {
   try {
-    const answer = await fetch(path, { cache: "no-store", credentials: "same-origin", signal: AbortSignal.timeout(70000), ...words });
+    const answer = await fetch(
+      path, {cache: "no-store", credentials: "same-origin", signal: AbortSignal.timeout(70000), ...words});
     return [answer, new Uint8Array(await answer.arrayBuffer())];
   } catch {
     throw new Fault("The manager can't be reached.");
@@ -69,29 +81,33 @@ async function asked(path, words) {
 /** What the console answers to a request; a body that is no octets goes as JSON. */
 export async function ask(method, path, body) {
   const octets = body === undefined || body instanceof Uint8Array ? body : JSON.stringify(body);
-  const [answer, bytes] = await asked(`/api${path}`, { method, body: octets, headers: method === "GET" ? {} : { "Mud-Change": "yes" } });
+  const [answer, bytes] = await asked(
+    `/api${path}`, {method, body: octets, headers: method === "GET" ? {} : {"Mud-Change": "yes"}});
   let said;
   try {
-    said = JSON.parse(new TextDecoder("utf-8", { fatal: true }).decode(bytes));
+    said = JSON.parse(new TextDecoder("utf-8", {fatal: true}).decode(bytes));
   } catch {
     said = null;
   }
   if (!answer.ok) throw new Fault(wordsOf(answer.status, said ?? {}), answer.status, said ?? {});
-  if (said === null || typeof said !== "object") throw new Fault("What came is no whole answer of the manager.");
+  if (said === null || typeof said !== "object")
+    throw new Fault("What came is no whole answer of the manager.");
   return said;
 }
 
 /** A listing of the console, which has its form. */
 export async function listing(name) {
   const rows = (await ask("GET", `/${name}`))[name];
-  if (!has(rows, SHAPES[name])) throw new Fault(`The manager lists its ${name} in a form that this page doesn't know.`);
+  if (!has(rows, SHAPES[name]))
+    throw new Fault(`The manager lists its ${name} in a form that this page doesn't know.`);
   return rows;
 }
 
 /** The SHA-256 of octets as hex digits. */
 export async function digest(octets) {
   if (!crypto.subtle) {
-    throw new Fault("This browser computes no digests on a page without TLS. Reach it as 127.0.0.1, localhost, or by https.");
+    throw new Fault(
+      "This browser computes no digests on a page without TLS. Reach it as 127.0.0.1, localhost, or by https.");
   }
   const hash = new Uint8Array(await crypto.subtle.digest("SHA-256", octets));
   return Array.from(hash, (octet) => octet.toString(16).padStart(2, "0")).join("");
@@ -99,13 +115,20 @@ export async function digest(octets) {
 
 const held = new Map();
 
-/** The octets of a file that the console lists with this digest; their own digest is compared before anything is shown. */
+/**
+ * The octets of a file that the console lists with this digest; their own digest is compared before anything
+ * is shown.
+ */
 export async function octetsOf(sha256) {
   if (held.has(sha256)) return held.get(sha256);
   const [answer, octets] = await asked(`/files/${sha256}.json`);
-  if (answer.status === 404) throw new Fault("Its octets aren't in the folder of files. Drop the file here, and it is put there.", 404);
-  if (!answer.ok) throw new Fault(SITE[answer.status] ?? `The folder of files answers ${answer.status}.`, answer.status);
-  if (await digest(octets) !== sha256) throw new Fault("What stands in the folder of files has another digest, so it isn't shown.");
+  if (answer.status === 404)
+    throw new Fault(
+      "Its octets aren't in the folder of files. Drop the file here, and it is put there.", 404);
+  if (!answer.ok)
+    throw new Fault(SITE[answer.status] ?? `The folder of files answers ${answer.status}.`, answer.status);
+  if (await digest(octets) !== sha256)
+    throw new Fault("What stands in the folder of files has another digest, so it isn't shown.");
   held.set(sha256, octets);
   return octets;
 }
@@ -125,19 +148,25 @@ export async function post(octets) {
   if (octets.length > MOST) throw new Fault(`It has more than ${MOST} octets.`);
   const sha256 = await digest(octets);
   const answer = await ask("POST", "/files", octets);
-  const [put] = await asked(`/files/${sha256}.json`, { method: "PUT", body: octets, headers: { "Mud-Change": "yes" } });
-  if (put.status === 409) await octetsOf(sha256);
-  else if (!put.ok) throw new Fault(`It was posted, but the folder of files answers ${put.status}: so it can't be looked at here.`);
-  return { ...answer, sha256 };
+  const [put] =
+    await asked(`/files/${sha256}.json`, {method: "PUT", body: octets, headers: {"Mud-Change": "yes"}});
+  if (put.status === 409)
+    await octetsOf(sha256);
+  else if (!put.ok)
+    throw new Fault(
+      `It was posted, but the folder of files answers ${put.status}: so it can't be looked at here.`);
+  return {...answer, sha256};
 }
 
 /** The lines of the log of changes, each as an object whose body has a letter for each octet. */
 export async function changes() {
   const [answer, octets] = await asked("/log/changes.log");
   if (answer.status === 404) return [];
-  if (!answer.ok) throw new Fault(SITE[answer.status] ?? `The log of changes is answered ${answer.status}.`, answer.status);
+  if (!answer.ok)
+    throw new Fault(SITE[answer.status] ?? `The log of changes is answered ${answer.status}.`, answer.status);
   let letters = "";
-  for (let at = 0; at < octets.length; at += 8192) letters += String.fromCharCode(...octets.subarray(at, at + 8192));
+  for (let at = 0; at < octets.length; at += 8192)
+    letters += String.fromCharCode(...octets.subarray(at, at + 8192));
   return letters.split("\n").filter(Boolean).flatMap((line) => {
     try {
       return [JSON.parse(line)];

@@ -131,6 +131,21 @@ class Browser:
         self.driver.execute_script("arguments[0].scrollIntoView({block: 'center'})", found[0])
         found[0].click()
 
+    def press(self, key):
+        """Presses a key of this name."""
+        from selenium.webdriver.common.action_chains import ActionChains
+        from selenium.webdriver.common.keys import Keys
+        ActionChains(self.driver).send_keys(getattr(Keys, key)).perform()
+
+    def press_until(self, words, most=60):
+        """Goes by the tabulator to what has these words, and presses Enter there."""
+        for _ in range(most):
+            self.press("TAB")
+            if self.driver.switch_to.active_element.text == words:
+                self.press("ENTER")
+                return
+        raise AssertionError(f"the keys don't lead to '{words}'")
+
     def fill(self, label, text):
         """Writes into the field with this label."""
         found = next(one for one in self.driver.find_elements(self.by.TAG_NAME, "label") if one.text.startswith(label))

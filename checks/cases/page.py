@@ -244,6 +244,20 @@ class Operating(OnPage):
         self.whole(page)
 
 
+    def test_keyboard(self):
+        """By the keys alone: to a view, to a Thing's hold, and out of a question back."""
+        self.approved()
+        page = self.browser()
+        page.says(MAC)
+        page.press_until("Hold")
+        self.holds("held", page.says(f"{MAC} is held: all its packets are dropped."))
+        page.press_until("Remove")
+        page.press("ESCAPE")
+        self.note("a question left by Escape", 1, len(self.site.told("/things")["things"]))
+        page.press_until("Names")
+        self.holds("another view", page.says("Local networks"))
+
+
 class Refusing(OnPage):
     def test_two_operators(self):
         """A file that changed between look and approve is refused, and the new one is shown."""

@@ -107,7 +107,7 @@ export async function listing(name) {
 export async function digest(octets) {
   if (!crypto.subtle) {
     throw new Fault(
-      "This browser computes no digests on a page without TLS. Reach it as 127.0.0.1, localhost, or by https.");
+      "Without TLS this browser computes no digests. Reach the page as 127.0.0.1, localhost, or by https.");
   }
   const hash = new Uint8Array(await crypto.subtle.digest("SHA-256", octets));
   return Array.from(hash, (octet) => octet.toString(16).padStart(2, "0")).join("");

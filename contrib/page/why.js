@@ -91,7 +91,7 @@ export function whyView(view, tables) {
             [within ?
                element(
                  "p", {class: "panel"},
-                 "Of this frame alone; in its connection it may pass: an entry asks who began the connection.") :
+                 "Of this frame alone; in its connection it may pass: an entry asks who began it.") :
                null,
              element("p", {}, "Verdict: ", element("b", {}, visible(answer.verdict)), "."),
              await endpointPart("It is sent by", answer.from, "from", files),

@@ -77,7 +77,9 @@ export function thingsView(view, tables, does) {
     const now = Date.now() / 1000;
     const rows = tables.things.map(
       (thing) =>
-        [element("code", {class: "whole"}, thing.mac), text(thing.url), tables.files ? stateOf(thing, files, due) : "",
+        [
+        element("code", {class: "whole"}, thing.mac), text(thing.url),
+        tables.files ? stateOf(thing, files, due) : "",
          thing.leases.map((lease) => element("div", {}, `${lease.address}, ${living(lease.until, now)}`)),
          pendingCell(thing, files, does), deeds(thing, does)]);
     performance.mark("first-view");

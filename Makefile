@@ -75,10 +75,13 @@ install: $(program)
 	install -d "$(bin)" "$(man)" "$(share)"
 	install -m 755 $(program) "$(bin)/mud"
 	install -m 644 man/mud.1 "$(man)/mud.1"
-	install -m 644 docs/GUIDE.md docs/REFERENCE.md docs/CLAIMS.md CHANGELOG.md "$(share)"
+	install -m 644 docs/GUIDE.md docs/REFERENCE.md docs/CLAIMS.md docs/page.png CHANGELOG.md "$(share)"
 	cp -R examples "$(share)/examples"
 	find "$(share)/examples" -type d -exec chmod 755 {} + -o -type f -exec chmod 644 {} +
+	install -d "$(share)/page"
+	install -m 644 contrib/page/* "$(share)/page"
 	for file in contrib/*; do \
+	  if [ -d "$$file" ]; then continue; fi; \
 	  mode=644; if [ -x "$$file" ]; then mode=755; fi; \
 	  install -m $$mode "$$file" "$(share)" || exit 1; \
 	done

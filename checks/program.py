@@ -126,16 +126,20 @@ class Server:
         self.words, self.program = (count, store), program
 
     def __enter__(self):
-        count, store = self.words
         for _ in range(9):
             self.port = free_port()
-            self.process = subprocess.Popen([self.program, "serve", store, str(self.port), str(count)],
-                                            stdin=subprocess.DEVNULL, stdout=subprocess.PIPE, stderr=subprocess.PIPE)
-            until(lambda: listens(self.port) or self.process.poll() is not None)
-            if self.process.poll() is None:
+            if self.start():
                 return self
             self.process.communicate()
         raise AssertionError("the program listens on no port")
+
+    def start(self):
+        """Starts it at its port. Whether it listens there."""
+        count, store = self.words
+        self.process = subprocess.Popen([self.program, "serve", store, str(self.port), str(count)],
+                                        stdin=subprocess.DEVNULL, stdout=subprocess.PIPE, stderr=subprocess.PIPE)
+        until(lambda: listens(self.port) or self.process.poll() is not None)
+        return self.process.poll() is None
 
     def __exit__(self, *_):
         self.kill()

@@ -20,6 +20,7 @@ pid {0}/nginx.pid;
 error_log {0}/error.log;
 events {{ }}
 http {{
+  include /etc/nginx/mime.types;
   client_body_temp_path {0}/body;
   proxy_temp_path {0}/proxy;
   include {0}/nginx-mud.conf;
@@ -107,6 +108,7 @@ class Site:
     def configure(self, **changed):
         """Writes nginx's configuration over this folder, with what an operator changed in it; its path."""
         text = texts.read("contrib/nginx-mud.conf").replace("/var/log/mud", self.path("log")).replace("/etc/nginx/mud.users", self.path("mud.users"))
+        text = text.replace("/usr/local/share/mud", os.path.join(HERE, "contrib")).replace("/var/lib/mud-files", self.path("files"))
         for old, new in changed.items():
             text = text.replace(old, new)
         self.write("nginx-mud.conf", text)

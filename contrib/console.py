@@ -19,6 +19,8 @@ PLACE = "http://127.0.0.1:8080"
 WAIT = 60
 # behind a client that takes no answer the next one waits four minutes at most
 ANSWER = 250
+# for how many seconds one connection is kept, where requests follow each other
+TURN = 1.0
 # how often all is asked anew where the one connection ends in the midst
 TRIES = 5
 MEANINGS = {
@@ -68,13 +70,20 @@ def login(host):
     return lines
 
 
+def announcement(mac, url):
+    """The message in which a client of DHCP announces a URL, given as octets: a request (1) over Ethernet (1) with
+    addresses of 6 octets, all else 0; the cookie; the option 161."""
+    head = bytes.fromhex("01010600") + bytes(24) + bytes.fromhex(mac.replace(":", "")) + bytes(202)
+    return head + bytes.fromhex("63825363a1") + bytes([len(url)]) + url + b"\xff"
+
+
 class Console:
     """The console, over a connection that is kept from request to request."""
 
     def __init__(self, wait=WAIT, place=None):
         self.place = place or os.environ.get("MUD_CONSOLE") or PLACE
         self.wait = wait
-        self.connection = None
+        self.connection, self.until = None, 0.0
 
     def close(self):
         """Gives the connection up, so that the console's other clients have their turn."""
@@ -100,7 +109,7 @@ class Console:
         connection.connect()
         # once it has ended, a request doesn't make another one
         connection.auto_open = 0
-        self.connection = connection
+        self.connection, self.until = connection, time.monotonic() + TURN
 
     def once(self, method, path, body=b""):
         """The status and the text of an answer, over the connection as it is. One that ends is an OSError or
@@ -135,7 +144,10 @@ class Console:
             time.sleep(min(1, self.wait / 10))
 
     def ask(self, method, path, body=b""):
-        """The status and the text of an answer."""
+        """The status and the text of an answer. A connection that had its turn is given up before, so that the
+        console's other clients have theirs."""
+        if time.monotonic() >= self.until:
+            self.close()
         return self.patiently(lambda: self.once(method, path, body))
 
     def tell(self, method, path, body):

@@ -13,6 +13,7 @@ import subprocess
 import tempfile
 import time
 
+import console
 import kept_files
 from console import Fault
 
@@ -35,9 +36,7 @@ def url_to_tell(url):
 
 def announcement(mac, url):
     """The DHCP message in which the Thing announces the URL."""
-    text = url_to_tell(url).encode()
-    head = b"\1\1\6\0" + bytes(24) + bytes.fromhex(mac.replace(":", "")) + bytes(202)
-    return head + b"\x63\x82\x53\x63\xa1" + bytes([len(text)]) + text + b"\xff"
+    return console.announcement(mac, url_to_tell(url).encode())
 
 
 def steps_to(expiry, most):

@@ -153,7 +153,7 @@ class Pages(OnSite):
                 ("another name, and ours in the target", 403, ("GET", "/api/things", None, "-H", "Host: evil.example", "--request-target", "http://localhost/api/things"), {}),
                 ("another path", 404, ("GET", "/api/store"), {}), ("another letter", 404, ("GET", "/api/Things"), {}),
                 ("a path that leads there", 404, ("GET", "/api/x/../things", None, "--path-as-is"), {}),
-                ("a question behind it", 404, ("GET", "/api/things?x"), {}), ("no path", 404, ("GET", "/"), {}),
+                ("a question behind it", 404, ("GET", "/api/things?x"), {}), ("no path", 404, ("GET", "/api/"), {}), ("no file of the page", 404, ("GET", "/nothing.js"), {}),
                 ("another method", 405, ("PUT", "/api/holds", HOLD), {}), ("HEAD", 405, ("HEAD", "/api/things", None, "-I"), {}),
                 ("a body too long", 413, ("POST", "/api/files", bytes(524289)), {}),
                 ("a body in pieces", 411, ("POST", "/api/holds", HOLD, "-H", "Transfer-Encoding: chunked"), {}),
@@ -165,6 +165,23 @@ class Pages(OnSite):
         self.note("the log of refused requests", [(str(wanted), "") for _, wanted, _, _ in rows], [(line["status"], line["user"]) for line in lines])
         self.note("the log of changes", done, len(self.site.log("changes.log")))
         self.note("the store", before, self.site.tables())
+
+    def test_folder(self):
+        """The folder of usage files: a file is put there once, under a digest, by a request with the header."""
+        os.mkdir(self.path("files"))
+        shutil.chown(self.path("files"), "www-data")
+        self.opened()
+        place = f"/files/{hashlib.sha256(b'{}').hexdigest()}"
+        rows = [("a foreign page's", 403, ("PUT", place + ".json", b"{}"), {"change": False}), ("without a password", 401, ("PUT", place + ".json", b"{}"), {"user": None}),
+                ("too long", 413, ("PUT", place + ".json", bytes(262145)), {}), ("no digest", 404, ("PUT", "/files/a.json", b"{}"), {}),
+                ("an outcome", 405, ("PUT", place + ".outcome", b"{}"), {}), ("above it", 404, ("PUT", "/files/../a.json", b"{}", "--path-as-is"), {}),
+                ("none yet", 404, ("GET", place + ".json"), {}), ("put", 201, ("PUT", place + ".json", b"{}"), {}),
+                ("there", 409, ("PUT", place + ".json", b"{ }"), {}), ("deleted", 405, ("DELETE", place + ".json"), {}), ("posted", 405, ("POST", place + ".json", b"{}"), {})]
+        for what, wanted, words, more in rows:
+            self.note(what, wanted, self.site.asked(*words, **more)[0])
+        self.note("what is read there", (200, "{}"), self.site.asked("GET", place + ".json"))
+        self.note("what is in the folder", [place[7:] + ".json"], os.listdir(self.path("files")))
+        self.note("the log of refused requests", [str(wanted) for _, wanted, _, _ in rows if wanted != 201], [line["status"] for line in self.site.log("refused.log")])
 
     def test_waiting(self):
         """While the console serves a client that says nothing sixteen requests wait, and the next one is refused."""

@@ -7,7 +7,6 @@ environment that dnsmasq gives, 'feed' what a capture has, and its live verdicts
 import json
 import os
 import re
-import subprocess
 import time
 import urllib.request
 
@@ -49,7 +48,8 @@ class Texts(Contrib):
         for name, unit, words in (("mud.service", "mud.service", PROGRAM),
                                   ("mud-listen@.service", "mud-listen@br0.service", os.path.abspath("contrib/listen")),
                                   ("mud-rules.service", "mud-rules.service", os.path.abspath("contrib/nft-rules")),
-                                  ("mud-metrics.service", "mud-metrics.service", os.path.abspath("contrib/metrics"))):
+                                  ("mud-metrics.service", "mud-metrics.service", os.path.abspath("contrib/metrics")),
+                                  ("mud-fetch.service", "mud-fetch.service", os.path.abspath("contrib/fetch"))):
             text = re.sub("^ExecStart=[^ \n]*", f"ExecStart={words}", texts.read("contrib/" + name), flags=re.M)
             # what loads rules needn't be there
             text = re.sub(r"^(Exec\w+=\+)/usr/sbin/nft", rf"\1{words}", text, flags=re.M)
@@ -58,7 +58,7 @@ class Texts(Contrib):
             self.note(f"verify {unit}, words", b"", ended.out + ended.errors)
             # the threshold is ten times the figure
             self.status(f"security {unit}", 0, "systemd-analyze", "security", "--offline=true", "--threshold=40", path)
-        for name in ("mud-rules.timer", "mud-metrics.timer"):
+        for name in ("mud-rules.timer", "mud-metrics.timer", "mud-fetch.timer"):
             timer = self.put(name, read("contrib/" + name))
             self.note(f"verify {name}", (0, b""), run("verify", "--man=no", timer, program="systemd-analyze")[::2])
 
@@ -153,7 +153,7 @@ class Told(Contrib):
     def dnsmasq(self, *words, **variables):
         """What dnsmasq's script writes, with these words, and variables whose names begin with DNSMASQ_."""
         more = {f"DNSMASQ_{name}": value for name, value in variables.items()}
-        ended = run("contrib/dnsmasq-script", *words, program="sh", env={**self.environment, **more})
+        ended = run(*words, program="contrib/dnsmasq-script", env={**self.environment, **more})
         return ended.out + ended.errors
 
     def test_dnsmasq(self):
@@ -170,6 +170,8 @@ class Told(Contrib):
         self.note("add, an IPv6 lease", [("2001:db8::77", 300)], self.leased(mac))
         self.note("add, of an unknown hardware address", b"", self.dnsmasq("add", "00:03:00:01:02:00:00:00:00:0c", "2001:db8::78", IAID="1"))
         self.note("another word", b"", self.dnsmasq("init"))
+        self.holds("a URL that is none doesn't keep the lease from being told", b'"rule"' not in self.dnsmasq("old", mac, "192.0.2.78", MUD_URL="http://x/", TIME_REMAINING="300"))
+        self.note("the lease", [("192.0.2.78", 300)], [row for row in self.leased(mac) if row[0] == "192.0.2.78"])
 
     def test_feed(self):
         """Of day-micro.pcap: two Things announce themselves, lease, and ask the server that is bound for names."""

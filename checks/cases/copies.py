@@ -278,7 +278,7 @@ class FullStores(CopyCase):
 
 class Between(http.server.ThreadingHTTPServer):
     """Stands before the console, and does with the second listing of each connection what 'plan' says next: hands it
-    on, cuts the connection, stops, or answers with a status."""
+    on, cuts the connection, stops, answers with a status, or does what it is told and cuts the connection."""
 
     def __init__(self, port, plan):
         super().__init__(("127.0.0.1", 0), Handler)
@@ -305,7 +305,9 @@ class Handler(http.server.BaseHTTPRequestHandler):
         if self.path == "/files" and self.doing == "stop":
             threading.Thread(target=lambda: (self.server.shutdown(), self.server.server_close())).start()
             time.sleep(0.3)
-        if self.path == "/files" and self.doing in ("cut", "stop"):
+        if self.path == "/files" and callable(self.doing):
+            self.doing()
+        if self.path == "/files" and (callable(self.doing) or self.doing in ("cut", "stop")):
             self.close_connection = True
             return
         if self.path == "/files" and isinstance(self.doing, int):
@@ -356,20 +358,38 @@ class Consoles(CopyCase):
         self.tried("one that answers 503", [503], 1, "503 keeper: the store couldn't be written", False)
         self.tried("one that answers 507", [507], 1, "507", False)
 
-    def test_restarted(self):
-        """The served program itself is ended while its console is asked, and started anew."""
-        self.old()
+    def restarted(self, times):
+        """A copy of the served program, which is killed in the midst so many times and started anew at its port, each
+        time behind a further Thing."""
+        old = self.old()
         with program.Server(1000, self.store) as server:
-            asking = console.Console(place=f"http://127.0.0.1:{server.port}", wait=10)
-            asking.ask("GET", "/things")
-            server.kill()
-            again = subprocess.Popen([program.PROGRAM, "serve", self.store, str(server.port), "9"])
-            try:
-                self.note("the next request over a connection that ended", 200, asking.ask("GET", "/names")[0])
-                asking.close()
-            finally:
-                again.kill()
-                again.wait()
+
+            def restart():
+                server.kill()
+                another = announcement(f"02:00:00:00:01:{between.connections:02x}", "https://a.example/")
+                program.run("replay", self.store, input=program.request("POST", "/hear/dhcp", another))
+                server.start()
+
+            between = Between(server.port, [restart] * times)
+            ended = self.copied(between.server_address[1], "--wait", "9", self.copy)
+            between.shutdown()
+            between.server_close()
+        return old, ended
+
+    def test_restarted(self):
+        """Where the served program is started anew in the midst the copy is that of the one that was, whole; where it is
+        at each try there is none, and the old one stays."""
+        for times in (1, 4):
+            ended = self.restarted(times)[1]
+            self.note(f"started anew {times} times, the copy", (0, "", ""), ended)
+            wanted, got = report(self.store), report(self.copy)
+            self.holds(f"started anew {times} times, the further Things", wanted["things"].count(b"02:00:00:00:01:") >= times)
+            for what in wanted:
+                self.note(f"started anew {times} times, {what}", wanted[what], got.get(what))
+        old, ended = self.restarted(5)
+        self.note("started anew at each try, status", 1, ended[0])
+        self.holds("started anew at each try, words", "ended the connection in the midst, 5 times" in ended[2], ended[2])
+        self.note("started anew at each try, what stands there", old, program.run("report", self.copy, "things").out)
 
     def test_in_use(self):
         old = self.old()

@@ -12,8 +12,8 @@ from checks.program import read, run
 
 MESSAGE = "examples/dhcp/dhclient-dnsmasq-01-discover.bin"
 COPIED = "Makefile VERSION CHANGELOG.md docs man contrib examples packaging".split()
-MOVED = {"mud.bash-completion": "usr/share/bash-completion/completions/mud", "mud.logrotate": "etc/logrotate.d/mud", "mud.sysusers": "usr/lib/sysusers.d/mud.conf"}
-UNITS = ["mud-listen@.service", "mud-metrics.service", "mud-metrics.timer", "mud-rules.service", "mud-rules.timer", "mud.service"]
+MOVED = {"fetch.conf": "etc/mud/fetch.conf", "mud.bash-completion": "usr/share/bash-completion/completions/mud", "mud.logrotate": "etc/logrotate.d/mud", "mud.sysusers": "usr/lib/sysusers.d/mud.conf"}
+UNITS = ["mud-fetch.service", "mud-fetch.timer", "mud-listen@.service", "mud-metrics.service", "mud-metrics.timer", "mud-rules.service", "mud-rules.timer", "mud.service"]
 
 
 # in a root of its own over the machine's: a package of before, the store as a dynamic user leaves it, and then this
@@ -73,7 +73,8 @@ def files_below(folder):
 
 def of_contrib():
     """The files of contrib/, each with its mode."""
-    return [(name, "755" if os.access("contrib/" + name, os.X_OK) else "644") for name in os.listdir("contrib") if os.path.isfile("contrib/" + name)]
+    paths = [path.removeprefix("contrib/") for path in texts.files("contrib/*", "contrib/*/*") if os.path.isfile(path)]
+    return [(path, "755" if os.access("contrib/" + path, os.X_OK) else "644") for path in paths]
 
 
 def of_examples(folder):
@@ -99,12 +100,12 @@ class Package(ProgramCase):
         folder = "DESTDIR=" + self.path("installed")
         self.make("copy", "install", "PREFIX=/usr", folder)
         share = "usr/share/mud"
-        pages = [(f"{share}/{name}", "644") for name in ("CHANGELOG.md", "CLAIMS.md", "GUIDE.md", "REFERENCE.md")]
+        pages = [(f"{share}/{name}", "644") for name in ("CHANGELOG.md", "CLAIMS.md", "GUIDE.md", "REFERENCE.md", "page.png")]
         wanted = [("usr/bin/mud", "755"), ("usr/share/man/man1/mud.1", "644")] + pages
         wanted += [(f"{share}/{name}", mode) for name, mode in of_contrib()] + of_examples(share)
         self.note("files", sorted(wanted), files_below(self.path("installed")))
         units = "".join(read(f"{share}/{unit}", self.path("installed")).decode() for unit in UNITS)
-        self.note("the units' programs", ["/usr/share/mud/listen %i", "/usr/share/mud/metrics /var/lib/prometheus/node-exporter/mud.prom", "/usr/share/mud/nft-rules --load", "/usr/bin/mud serve /var/lib/mud/mud.db ${PORT} 1000000"],
+        self.note("the units' programs", ["/usr/share/mud/fetch", "/usr/share/mud/listen %i", "/usr/share/mud/metrics /var/lib/prometheus/node-exporter/mud.prom", "/usr/share/mud/nft-rules --load", "/usr/bin/mud serve /var/lib/mud/mud.db ${PORT} 1000000"],
                   re.findall("^ExecStart=(.*)", units, re.M))
         self.make("copy", "uninstall", "PREFIX=/usr", folder)
         self.note("what 'make uninstall' leaves", [], files_below(self.path("installed")))
@@ -116,7 +117,7 @@ class Package(ProgramCase):
         self.assertEqual(run("-x", package, self.path("unpacked"), program="dpkg-deb").status, 0)
         self.assertEqual(run("-e", package, self.path("unpacked/DEBIAN"), program="dpkg-deb").status, 0)
         share, pages = "usr/share/mud", "usr/share/doc/gonnavir"
-        names = ("CHANGELOG.md", "CLAIMS.md", "GUIDE.md", "README.md", "REFERENCE.md", "changelog.gz", "copyright")
+        names = ("CHANGELOG.md", "CLAIMS.md", "GUIDE.md", "README.md", "REFERENCE.md", "changelog.gz", "copyright", "page.png")
         wanted = [("usr/bin/mud", "755"), ("usr/share/man/man1/mud.1.gz", "644")] + [(f"{pages}/{name}", "644") for name in names]
         wanted += [(f"lib/systemd/system/{unit}", "644") for unit in UNITS] + of_examples(pages)
         wanted += [(f"{share}/{name}", mode) for name, mode in of_contrib() if name not in [*UNITS, *MOVED, "README.md"]]

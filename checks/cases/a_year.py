@@ -89,7 +89,8 @@ class Fed:
 
     def __exit__(self, *_):
         self.process.kill()
-        self.process.communicate()
+        self.process.stdout.close()
+        self.process.wait()
 
     def feed(self, pieces):
         """Writes these octets, while what comes back is read. The call gives a thread, which ends when all is written."""

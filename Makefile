@@ -3,7 +3,7 @@
 # make checks     runs the own checks of the pages and of the built program, with those that take minutes
 # make proofs     prints each clause of each public call, with the comment beside it
 # make trusted    prints the definitions that the contract of the program rests on, by chapter
-# make limits     runs into the limits that take minutes to reach
+# make limits     runs into the limits that take minutes to reach, and keeps the program at work for a year
 # make memory     runs the program with each allocation failing in turn
 # make plants     has the prover refuse the wrong bodies in plants/, of all crates (hours) or of
 #                 CRATES="mud_url mud_base"
@@ -43,7 +43,7 @@ trusted:
 	@checks/print trusted
 
 limits: build
-	checks/run far-limits
+	checks/run -j "$$(nproc)" far-limits a-year
 
 memory: build
 	checks/run -j "$$(nproc)" failing-allocations

@@ -83,7 +83,7 @@ def name_matches(side, name):
     }
 
 
-def usage_file(url, matches):
+def usage_file(url, matches, update="2019-01-28T11:20:51Z"):
     """The file of a URL with an entry for each of the tests that are listed for a side."""
 
     def listed(side):
@@ -98,7 +98,7 @@ def usage_file(url, matches):
             "ietf-mud:mud": {
                 "mud-version": 1,
                 "mud-url": url,
-                "last-update": "2019-01-28T11:20:51Z",
+                "last-update": update,
                 "is-supported": True,
                 "from-device-policy": named("from"),
                 "to-device-policy": named("to"),

@@ -73,6 +73,13 @@ def best_by_turns(runs, **ways):
     return best
 
 
+def memory_of(process):
+    """The memory in kB that a process has now, and the most that it had so far."""
+    with open(f"/proc/{process.pid}/status", encoding="ascii") as status:
+        found = {line.split()[0]: line.split()[1] for line in status if line.startswith(("VmRSS:", "VmHWM:"))}
+    return int(found["VmRSS:"]), int(found["VmHWM:"])
+
+
 def most_memory(words, source):
     """The most memory in kB that a command takes for a file. It comes through a pipe that stays open, so that the
     program still waits for more when the system is asked for its peak."""
@@ -80,8 +87,7 @@ def most_memory(words, source):
         shutil.copyfileobj(octets, process.stdin)
         process.stdin.flush()
         time.sleep(1)
-        with open(f"/proc/{process.pid}/status", encoding="ascii") as status:
-            peak = next(int(line.split()[1]) for line in status if line.startswith("VmHWM:"))
+        peak = memory_of(process)[1]
         process.stdin.close()
     return peak
 

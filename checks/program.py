@@ -7,6 +7,7 @@ import shutil
 import socket
 import struct
 import subprocess
+import threading
 import time
 
 from checks.texts import HERE
@@ -40,16 +41,31 @@ def run(*words, input=b"", out=None, program=PROGRAM, **more):
     return Ended(ran.returncode, written, errors, left)
 
 
-def run_in_pieces(pieces, *words, pause=0.01):
-    """The same of an input that comes in pieces, with a pause between two."""
-    with subprocess.Popen([PROGRAM, *words], stdin=subprocess.PIPE, stdout=subprocess.PIPE, bufsize=0) as ran:
-        with contextlib.suppress(BrokenPipeError):
-            for number, piece in enumerate(pieces):
-                time.sleep(pause if number else 0)
-                ran.stdin.write(piece)
-        ran.stdin.close()
-        written = ran.stdout.read()
-    return Ended(ran.returncode, written, b"", None)
+def run_by_reads(pieces, *words, program=PROGRAM, errors=subprocess.PIPE):
+    """The same of an input of which each read gives one of these pieces: a socket of this kind gives one packet a read.
+    What of a packet a reader has no room for is lost."""
+    ours, theirs = socket.socketpair(socket.AF_UNIX, socket.SOCK_SEQPACKET)
+    with ours:
+        with theirs:
+            ran = subprocess.Popen([program, *words], stdin=theirs, stdout=subprocess.PIPE, stderr=errors)
+        giver = threading.Thread(target=send_all, args=(ours, pieces))
+        giver.start()
+        try:
+            written, said = ran.communicate(timeout=SECONDS)
+        except subprocess.TimeoutExpired:
+            ran.kill()
+            return Ended(None, *ran.communicate(), None)
+        finally:
+            giver.join()
+    return Ended(ran.returncode, written, said, None)
+
+
+def send_all(port, pieces):
+    """Sends pieces while somebody takes them, and that there is no more."""
+    with contextlib.suppress(OSError):
+        for piece in pieces:
+            port.send(piece)
+        port.shutdown(socket.SHUT_WR)
 
 
 @contextlib.contextmanager

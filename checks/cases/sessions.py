@@ -31,7 +31,7 @@ class Sessions(ProgramCase):
         for number, run in enumerate(session.runs_of(f"examples/replay/{name}.session"), 1):
             self.ends(f"run {number}", run.status, run.wanted, program.run("replay", ":memory:", input=run.octets))
             for place in range(1, len(run.octets)) if run.in_pieces else ():
-                ended = program.run_in_pieces((run.octets[:place], run.octets[place:]), "replay", ":memory:")
+                ended = program.run_by_reads((run.octets[:place], run.octets[place:]), "replay", ":memory:")
                 self.ends(f"run {number}, cut behind octet {place}", run.status, run.wanted, ended)
             for size in range(len(run.octets)) if run.in_parts else ():
                 ended = program.run("replay", ":memory:", input=run.octets[:size])

@@ -57,15 +57,15 @@ fuzz: build
 bench: build
 	bench/frames
 	bench/check
-	bash bench/book-commands
+	bench/book-commands
 	bench/judge
 	bench/replay
-	bash bench/serve
-	python3 bench/row-changes
+	bench/serve
+	bench/row-changes
 	bench/kept-changes
 
 hostile: build
-	bash bench/slowest-inputs
+	bench/slowest-inputs
 
 bin = $(DESTDIR)$(PREFIX)/bin
 man = $(DESTDIR)$(PREFIX)/share/man/man1

@@ -17,7 +17,6 @@ FILES = 128
 THINGS = 512
 ROUTER = bytes.fromhex("0200000000fe")
 DNS_SERVER = bytes([192, 0, 2, 53])
-TABLE = "CREATE TABLE item (kind INTEGER NOT NULL, name BLOB NOT NULL, body BLOB NOT NULL, PRIMARY KEY (kind, name)) STRICT"
 
 
 def compact(value):
@@ -116,7 +115,7 @@ SERVER = class_item(b"urn:ietf:params:mud:dns", [DNS_SERVER])
 def write_store(path, items):
     """A store with these items, and the moment of the last change."""
     with contextlib.closing(sqlite3.connect(path)) as database, database:
-        database.execute(TABLE)
+        database.execute(program.ITEMS)
         database.executemany("INSERT INTO item VALUES (?, ?, ?)", [*items, stamp()])
 
 
@@ -246,6 +245,6 @@ def make_keeper(folder, count):
     changes = [(name_of(number % 64, 0), peer_of(number % 64, 0), MOMENT + number) for number in range(count)]
     write_requests(folder / "requests", (observed(name, dotted(address), 3600, moment) for name, address, moment in changes))
     with open(folder / "statements", "w", encoding="ascii") as statements:
-        statements.write(f"PRAGMA journal_mode = WAL;\nPRAGMA synchronous = FULL;\n{TABLE};\n")
+        statements.write(f"PRAGMA journal_mode = WAL;\nPRAGMA synchronous = FULL;\n{program.ITEMS};\n")
         for name, address, moment in changes:
             statements.write(f"BEGIN;\n{put(*name_item(name, [address], [moment + 3600]))}{put(*stamp(moment))}COMMIT;\n")

@@ -133,6 +133,8 @@ class Console:
 
     def __init__(self, program):
         self.process = subprocess.Popen([program, "replay", ":memory:"], stdin=subprocess.PIPE, stdout=subprocess.PIPE)
+        # what its start takes isn't counted
+        self.ask([b"GET /due HTTP/1.1\r\nMud-Moment: 0\r\n\r\n"])
 
     def answer(self):
         """The status and the body of the next answer."""

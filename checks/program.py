@@ -177,15 +177,28 @@ def capture(packets, link=1):
     return head + b"".join(struct.pack("<IIII", second, 0, len(octets), len(octets)) + octets for second, octets in packets)
 
 
-def packet_ends(octets):
-    """The offsets behind the header of a capture in the classic format and behind each packet that is whole."""
-    ends = [24]
-    while ends[-1] + 16 <= len(octets):
-        end = ends[-1] + 16 + int.from_bytes(octets[ends[-1] + 8:ends[-1] + 12], "little")
-        if end > len(octets):
+def packets_of(octets):
+    """The packets that are whole of a capture in the classic format, up to its end or its first fault: of each the offset
+    behind it, its second and its octets."""
+    order = {b"\xd4\xc3\xb2\xa1": "<", b"\x4d\x3c\xb2\xa1": "<", b"\xa1\xb2\xc3\xd4": ">", b"\xa1\xb2\x3c\x4d": ">"}.get(octets[:4])
+    found, end = [], 24
+    if len(octets) < 24 or not order or struct.unpack_from(order + "HH12xI", octets, 4) != (2, 4, 1):
+        return found
+    while end + 16 <= len(octets):
+        second, _, size, _ = struct.unpack_from(order + "IIII", octets, end)
+        if size > 262144 or end + 16 + size > len(octets):
             break
-        ends.append(end)
-    return ends
+        found.append((end + 16 + size, second, octets[end + 16:end + 16 + size]))
+        end += 16 + size
+    return found
+
+
+def packet_ends(octets):
+    """The offsets behind the header of a capture and behind each packet that is whole."""
+    return [24] + [end for end, _, _ in packets_of(octets)]
+
+
+ITEMS = "CREATE TABLE item (kind INTEGER NOT NULL, name BLOB NOT NULL, body BLOB NOT NULL, PRIMARY KEY (kind, name)) STRICT"
 
 
 def clear_store(store):

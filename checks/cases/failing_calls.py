@@ -36,7 +36,7 @@ from concurrent.futures import ThreadPoolExecutor
 from checks import session
 from checks.case import ProgramCase, cases_of, needs
 from checks.cases.stopped_stores import change
-from checks.program import PROGRAM, copy_store, free_port, listens, read, run
+from checks.program import PROGRAM, copy_store, free_port, listens, packets_of, read, run, run_by_reads
 
 CALLS = """open openat read pread64 readv recvfrom write pwrite64 writev sendto lseek stat fstat lstat newfstatat
     statx access faccessat faccessat2 getdents64 fsync fdatasync ftruncate fallocate flock fcntl unlink unlinkat
@@ -159,12 +159,8 @@ class Scene:
 
     def carry_out(self, run, items, command):
         """The program reads the pieces one by one, each by one read."""
-        reader, writer = socket.socketpair(socket.AF_UNIX, socket.SOCK_SEQPACKET)
-        with reader:
-            with writer:
-                for piece in self.input(items):
-                    writer.sendall(piece)
-            return ended(subprocess.Popen(command, stdin=reader, stdout=subprocess.PIPE, stderr=run.errors))
+        ended = run_by_reads(self.input(items), *command[1:], program=command[0], errors=run.errors)
+        return ended.status, ended.out
 
     def undisturbed(self, items):
         """The run of these items without a failure."""
@@ -229,12 +225,7 @@ class Capture(Scene):
     """Packets, of which the whole ones among the octets taken are due."""
 
     def whole(self, taken):
-        octets = b"".join(self.pieces)
-        count, at = 0, 24
-        while at + 16 <= len(octets):
-            at += 16 + int.from_bytes(octets[at + 8:at + 12], "little")
-            count += at <= min(taken, len(octets))
-        return count
+        return len(packets_of(b"".join(self.pieces)[:taken]))
 
 
 class Replay(Scene):

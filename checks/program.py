@@ -91,13 +91,13 @@ Answer = collections.namedtuple("Answer", "status closes body octets")
 
 
 def answers(octets):
-    """The answers that octets have, each whole."""
+    """The answers that octets have; the last one may be cut."""
     found = []
     while octets:
         head, end, rest = octets.partition(b"\r\n\r\n")
         length = int(re.search(rb"\r\nContent-Length: ([0-9]+)", head)[1]) if end else 0
         whole = octets[:len(head) + len(end) + length]
-        found.append(Answer(int(head.split()[1]), b"\r\nConnection: close" in head, rest[:length], whole))
+        found.append(Answer(int(head.split()[1]) if end else 0, b"\r\nConnection: close" in head, rest[:length], whole))
         octets = rest[length:]
     return found
 
@@ -167,6 +167,15 @@ class Server:
             self.process.wait(timeout=10)
         case.note(what + ", status", 0, self.process.poll())
         case.note(what + ", octets printed", b"", self.kill())
+
+
+TABLES = ("things", "files", "classes", "locals", "names")
+
+
+def tables_of(store):
+    """The listings of a store that is opened again, and the status."""
+    ended = run("replay", store, input=b"".join(request("GET", "/" + table, moment=0) for table in TABLES))
+    return ended.status, ended.out
 
 
 # ---- Captures and stores

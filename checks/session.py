@@ -226,6 +226,13 @@ def runs_of(path):
     return Reader(texts.lines(path)).runs
 
 
+def requests_of(path):
+    """The requests of the first run of a session, each with its octets."""
+    one = runs_of(path)[0]
+    ends = [end for _, end, _ in one.places]
+    return [one.octets[begin:end] for begin, end in zip([0] + ends, ends)]
+
+
 def run_of_steps(*names):
     """The run of some steps."""
     return Reader(["do " + " ".join(names)]).runs[0]

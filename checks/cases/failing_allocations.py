@@ -161,12 +161,10 @@ class FailingAllocations(ProgramCase):
 
     def network(self):
         """The store of a network; the requests that make it, with some more; and what is due to them."""
-        made = session.runs_of("examples/report/network.session")[0]
-        ends = [0] + [end for _, end, _ in made.places]
-        requests = [made.octets[begin:end] for begin, end in zip(ends, ends[1:])]
-        requests += [request("POST", "/packets", SYN, 1002), request("POST", "/why", SYN, 1002),
-                     request("DELETE", "/leases", '{"address":"192.0.2.11"}', 1002),
-                     request("GET", "/things", moment=1003), request("GET", "/files", moment=1003)]
+        requests = session.requests_of("examples/report/network.session") + [
+            request("POST", "/packets", SYN, 1002), request("POST", "/why", SYN, 1002),
+            request("DELETE", "/leases", '{"address":"192.0.2.11"}', 1002), request("GET", "/things", moment=1003),
+            request("GET", "/files", moment=1003)]
         store = self.path("network")
         clear_store(store)
         return store, requests, self.due(["replay", store], b"".join(requests))

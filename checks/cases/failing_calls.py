@@ -35,7 +35,7 @@ from concurrent.futures import ThreadPoolExecutor
 from checks.case import ProgramCase, cases_of, needs
 from checks.cases.stopped_stores import change
 from checks.program import PROGRAM, answers, copy_store, free_port, listens, packets_of, read, request, run, run_by_reads, tables_of, until
-from checks.session import requests_of
+from checks.session import answer, requests_of
 
 CALLS = """open openat read pread64 readv recvfrom write pwrite64 writev sendto lseek stat fstat lstat newfstatat
     statx access faccessat faccessat2 getdents64 fsync fdatasync ftruncate fallocate flock fcntl unlink unlinkat
@@ -46,8 +46,7 @@ WRITES = {"write", "pwrite64", "writev", "sendto"}
 KEEPS = WRITES | {"fsync", "fdatasync", "ftruncate"}
 LONGEST = 60
 MOST_IN_LOG = 494
-KEEPER = (b"HTTP/1.1 503 Service Unavailable\r\nContent-Type: application/json\r\n"
-          b"Content-Length: 17\r\n\r\n{\"rule\":\"keeper\"}")
+KEEPER = answer(503, '{"rule":"keeper"}')
 ERROR = os.environ.get("ERROR", "EIO")
 
 

@@ -77,8 +77,7 @@ class Files(Hostile):
 
     def answered(self, what, body, status, answer):
         """The body is sent to /classes, and this is the answer's body."""
-        head = f"HTTP/1.1 {status} {session.PHRASES[status]}\r\nContent-Type: application/json\r\nContent-Length: {len(answer)}\r\n\r\n"
-        self.said(what, 0, head + answer, request("POST", "/classes", body, 5), "replay", ":memory:")
+        self.said(what, 0, session.answer(status, answer), request("POST", "/classes", body, 5), "replay", ":memory:")
 
     def test_bodies(self):
         for count in (127, 128, 200):

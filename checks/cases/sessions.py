@@ -10,8 +10,7 @@ NAMES = [os.path.basename(path).removesuffix(".session") for path in texts.files
 
 def fault(rule):
     """The answer to octets that are no request."""
-    return (f"HTTP/1.1 400 Bad Request\r\nContent-Type: application/json\r\nContent-Length: {len(rule) + 11}\r\n"
-            f'Connection: close\r\n\r\n{{"rule":"{rule}"}}').encode()
+    return session.answer(400, f'{{"rule":"{rule}"}}', closes=True)
 
 
 def of_first_part(run, size):

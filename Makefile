@@ -5,6 +5,7 @@
 # make trusted    prints the definitions that the contract of the program rests on, by chapter
 # make limits     runs into the limits that take minutes to reach, and keeps the program at work for a year
 # make memory     runs the program with each allocation failing in turn
+# make twice      builds the program once more, in a folder of another name, and compares the two
 # make plants     has the prover refuse the wrong bodies in plants/, of all crates (hours) or of
 #                 CRATES="mud_url mud_base"
 # make fuzz       runs it on inputs that were changed at random, for MINUTES=1 or another number
@@ -22,7 +23,7 @@ CRATES ?=
 
 program = crates/mud/out/mud
 
-.PHONY: build test checks proofs trusted limits memory plants fuzz bench hostile install uninstall deb clean
+.PHONY: build test checks proofs trusted limits memory twice plants fuzz bench hostile install uninstall deb clean
 build:
 	sh ./build
 
@@ -48,6 +49,9 @@ limits: build
 memory: build
 	checks/run -j "$$(nproc)" failing-allocations
 
+twice: build
+	checks/run two-builds
+
 plants:
 	checks/run $(if $(CRATES),$(addprefix wrong-bodies.,$(CRATES)),wrong-bodies)
 
@@ -57,15 +61,15 @@ fuzz: build
 bench: build
 	bench/frames
 	bench/check
-	bash bench/book-commands
+	bench/book-commands
 	bench/judge
 	bench/replay
-	bash bench/serve
-	python3 bench/row-changes
+	bench/serve
+	bench/row-changes
 	bench/kept-changes
 
 hostile: build
-	bash bench/slowest-inputs
+	bench/slowest-inputs
 
 bin = $(DESTDIR)$(PREFIX)/bin
 man = $(DESTDIR)$(PREFIX)/share/man/man1

@@ -1,32 +1,14 @@
-"""Makes the stores, captures, requests and statements that bench/frames, bench/judge, bench/replay and bench/kept-changes
-measure with.
-
-  inputs.py judge FOLDER    FOLDER/large.db has 512 Things, 128 approved files and 4,096 entries,
-                            FOLDER/small.db one Thing and a file with one entry, which is the first
-                            Thing and the first entry of the large one. FOLDER/long.pcap has 1,000,000
-                            packets of that Thing and FOLDER/short.pcap 100,000, with the same verdicts
-                            by both stores; FOLDER/spread.pcap has 1,000,000 of all Things of the large
-                            store. FOLDER/rules is a filter of 1,024 address rules for tcpdump, of which
-                            the last one is the Thing's address.
-  inputs.py replay FOLDER   FOLDER/small.requests has 200,000 requests behind those that make a Thing:
-                            by turns a packet and the observation of a name; FOLDER/more.requests has the
-                            first 8,000 of them and FOLDER/some.requests the first 6,000; FOLDER/things.requests
-                            makes 512 Things, and FOLDER/listings.requests lists them 200,000 times.
-  inputs.py keeper FOLDER COUNT
-                            FOLDER/requests has so many observations of 64 names, each of which changes
-                            the tables. FOLDER/statements has for sqlite3 the table of items and the
-                            same changes, a transaction each: the name's item and the last moment's.
-  inputs.py pcapng CAPTURE FILE
-                            FILE has the packets of a capture in the classic format, little-endian, in
-                            pcapng, behind the 48 octets of a section and an interface.
+"""The stores, captures, requests and usage files that the measurements share.
 
 The forms of the items are those that the program keeps; numbers are big-endian.
 """
-
+import contextlib
+import itertools
 import json
 import sqlite3
 import struct
-import sys
+
+from checks import program, session
 
 FOR_EVER = 2**64 - 1
 MOMENT = 1000
@@ -35,11 +17,17 @@ FILES = 128
 THINGS = 512
 ROUTER = bytes.fromhex("0200000000fe")
 DNS_SERVER = bytes([192, 0, 2, 53])
-TABLE = (
-    "CREATE TABLE item (kind INTEGER NOT NULL, name BLOB NOT NULL, body BLOB NOT NULL,"
-    " PRIMARY KEY (kind, name)) STRICT"
-)
 
+
+def compact(value):
+    return json.dumps(value, separators=(",", ":")).encode()
+
+
+def dotted(address):
+    return ".".join(map(str, address))
+
+
+# ---- Things, usage files and their names, each by its number
 
 def mac_of(thing):
     return bytes([2, 0, 0, 1]) + struct.pack(">H", thing)
@@ -61,6 +49,33 @@ def peer_of(file, entry):
     return bytes([198, 18]) + struct.pack(">H", 256 + file * ENTRIES_A_SIDE + entry)
 
 
+def name_matches(side, name):
+    """The tests of an entry for one name at port 443."""
+    far, port = ("dst", "destination-port") if side == "from" else ("src", "source-port")
+    return {"ipv4": {f"ietf-acldns:{far}-dnsname": name, "protocol": 6},
+            "tcp": {"ietf-mud:direction-initiated": "from-device", port: {"operator": "eq", "port": 443}}}
+
+
+def entry(name, tests, size=0):
+    """An entry with these tests, or with none; its name fills it to so many octets."""
+    made = {"name": name, **({"matches": tests} if tests else {}), "actions": {"forwarding": "accept"}}
+    made["name"] += "x" * (size - len(compact(made)))
+    return made
+
+
+def usage_file(url, matches, size=0, entry_size=0, **more):
+    """The file of a URL with an entry for each of the tests that are listed for a side; it has so many octets at least."""
+    lists = [{"name": side, "type": "ipv4-acl-type",
+              "aces": {"ace": [entry(f"{side}{number}", one, entry_size) for number, one in enumerate(tests)]}} for side, tests in matches.items()]
+    policies = {f"{side}-device-policy": {"access-lists": {"access-list": [{"name": side}]}} for side in matches}
+    mud = {"mud-version": 1, "mud-url": url, "last-update": "2019-01-28T11:20:51Z", "is-supported": True, "systeminfo": "", **more, **policies}
+    made = {"ietf-mud:mud": mud, "ietf-access-control-list:acls": {"acl": lists}}
+    mud["systeminfo"] = "x" * (size - len(compact(made)))
+    return compact(made)
+
+
+# ---- Stores
+
 def string(octets):
     return struct.pack(">I", len(octets)) + octets
 
@@ -69,181 +84,90 @@ def ending(address, end=FOR_EVER):
     return b"\4" + address + struct.pack(">Q", end)
 
 
-def entry(side, number, matches):
-    return {"name": f"{side}{number}", "matches": matches, "actions": {"forwarding": "accept"}}
+def endings(addresses, ends=itertools.repeat(FOR_EVER)):
+    return struct.pack(">H", len(addresses)) + b"".join(map(ending, addresses, ends))
 
 
-def name_matches(side, name):
-    """The tests of an entry for one name at port 443."""
-    far = "dst" if side == "from" else "src"
-    port = "destination-port" if side == "from" else "source-port"
-    return {
-        "ipv4": {f"ietf-acldns:{far}-dnsname": name, "protocol": 6},
-        "tcp": {"ietf-mud:direction-initiated": "from-device", port: {"operator": "eq", "port": 443}},
-    }
+def thing_item(thing, url, addresses):
+    return 1, mac_of(thing), b"\2" + string(url.encode()) + b"\0" + endings(addresses) + b"\0"
 
 
-def usage_file(url, matches, update="2019-01-28T11:20:51Z"):
-    """The file of a URL with an entry for each of the tests that are listed for a side."""
-
-    def listed(side):
-        entries = [entry(side, number, tests) for number, tests in enumerate(matches[side])]
-        return {"name": side, "type": "ipv4-acl-type", "aces": {"ace": entries}}
-
-    def named(side):
-        return {"access-lists": {"access-list": [{"name": side}]}}
-
-    return json.dumps(
-        {
-            "ietf-mud:mud": {
-                "mud-version": 1,
-                "mud-url": url,
-                "last-update": update,
-                "is-supported": True,
-                "from-device-policy": named("from"),
-                "to-device-policy": named("to"),
-            },
-            "ietf-access-control-list:acls": {"acl": [listed("from"), listed("to")]},
-        },
-        separators=(",", ":"),
-    ).encode()
+def file_item(url, approved, candidate=None):
+    fetched = struct.pack(">Q", MOMENT)
+    return 2, url.encode(), b"\1\1" + fetched + b"\2" + string(approved) + (b"\1" + fetched + string(candidate) if candidate else b"\0")
 
 
-def named_file(file, sides):
-    """The file of a URL: for each side its number of entries, each for a name of its own."""
-    matches = {side: [name_matches(side, name_of(file, n)) for n in range(count)] for side, count in sides.items()}
-    return usage_file(url_of(file), matches)
+def class_item(uri, addresses):
+    return 3, b"\1" + uri, b"\1" + struct.pack(">H", len(addresses)) + b"".join(b"\4" + address for address in addresses)
+
+
+def name_item(name, addresses, ends=itertools.repeat(FOR_EVER)):
+    return 5, name.encode(), b"\1" + endings(addresses, ends)
+
+
+def stamp(moment=MOMENT):
+    return 6, b"", b"\1" + struct.pack(">Q", moment)
+
+
+SERVER = class_item(b"urn:ietf:params:mud:dns", [DNS_SERVER])
+
+
+def write_store(path, items):
+    """A store with these items, and the moment of the last change."""
+    with contextlib.closing(sqlite3.connect(path)) as database, database:
+        database.execute(program.ITEMS)
+        database.executemany("INSERT INTO item VALUES (?, ?, ?)", [*items, stamp()])
 
 
 def make_store(path, things, files, sides):
-    items = []
-    for thing in range(things):
-        url = url_of(thing % files).encode()
-        items.append((1, mac_of(thing), b"\2" + string(url) + b"\0\0\1" + ending(address_of(thing)) + b"\0"))
+    """So many Things and approved files; for each side of these a number of entries, each for a name of its own."""
+    items = [thing_item(thing, url_of(thing % files), [address_of(thing)]) for thing in range(things)]
     for file in range(files):
-        body = b"\1\1" + struct.pack(">Q", MOMENT) + b"\2" + string(named_file(file, sides)) + b"\0"
-        items.append((2, url_of(file).encode(), body))
-        for entry in range(sides["from"]):
-            items.append((5, name_of(file, entry).encode(), b"\1\0\1" + ending(peer_of(file, entry))))
-    items.append((3, b"\1urn:ietf:params:mud:dns", b"\1\0\1\4" + DNS_SERVER))
-    items.append((6, b"", b"\1" + struct.pack(">Q", MOMENT)))
-    with sqlite3.connect(path) as database:
-        database.execute(TABLE)
-        database.executemany("INSERT INTO item VALUES (?, ?, ?)", items)
-    database.close()
+        matches = {side: [name_matches(side, name_of(file, n)) for n in range(count)] for side, count in sides.items()}
+        items.append(file_item(url_of(file), usage_file(url_of(file), matches)))
+        items += [name_item(name_of(file, n), [peer_of(file, n)]) for n in range(sides["from"])]
+    write_store(path, [*items, SERVER])
 
 
-def frame(source, source_address, destination_address, protocol, transport):
-    length = 20 + len(transport)
-    head = struct.pack(">BBHHHBBH", 0x45, 0, length, 1, 0, 64, protocol, 0)
-    return ROUTER + source + b"\x08\0" + head + source_address + destination_address + transport
+# ---- Captures
+
+def frame(source, address, peer, protocol, transport, destination=ROUTER):
+    """A frame of IPv4 from a hardware address and an address to a peer behind the router."""
+    head = struct.pack(">BBHHHBBH", 0x45, 0, 20 + len(transport), 1, 0, 64, protocol, 0)
+    return destination + source + b"\x08\0" + head + address + peer + transport
 
 
-def tcp_frame(source, source_address, destination_address, port, flags):
-    transport = struct.pack(">HHIIBBHHH", port, 443, 1, 0, 0x50, flags, 65535, 0, 0)
-    return frame(source, source_address, destination_address, 6, transport)
+def tcp_frame(mac, address, peer, port, flags):
+    return frame(mac, address, peer, 6, struct.pack(">HHIIBBHHH", port, 443, 1, 0, 0x50, flags, 65535, 0, 0))
 
 
-def udp_frame(source, source_address, destination_address, port):
-    return frame(source, source_address, destination_address, 17, struct.pack(">HHHH", 40000, port, 8, 0))
-
-
-def packet(octets):
-    return struct.pack("<IIII", MOMENT, 0, len(octets), len(octets)) + octets
-
-
-def make_capture(path, packets, times):
-    with open(path, "wb") as capture:
-        capture.write(struct.pack("<IHHIIII", 0xA1B2C3D4, 2, 4, 0, 0, 262144, 1))
-        block = b"".join(map(packet, packets))
-        for _ in range(times):
-            capture.write(block)
+def write_capture(path, frames, times=1):
+    """A capture of these frames, so many times."""
+    octets = program.capture((MOMENT, octets) for octets in frames)
+    with open(path, "wb") as file:
+        file.write(octets[:24])
+        file.writelines(itertools.repeat(octets[24:], times))
 
 
 def make_judge(folder):
-    make_store(f"{folder}/large.db", THINGS, FILES, {"from": ENTRIES_A_SIDE, "to": ENTRIES_A_SIDE})
-    make_store(f"{folder}/small.db", 1, 1, {"from": 1, "to": 0})
+    """A large store and a small one, of which the first Thing and the first entry are the same; captures of that Thing, long
+    and short, with the same verdicts by both; one of all Things; and a filter of 1,024 address rules for tcpdump, of which
+    the last one is the Thing's address."""
+    make_store(folder / "large.db", THINGS, FILES, {"from": ENTRIES_A_SIDE, "to": ENTRIES_A_SIDE})
+    make_store(folder / "small.db", 1, 1, {"from": 1, "to": 0})
     mac, address, peer = mac_of(0), address_of(0), peer_of(0, 0)
     ack, syn = 0x10, 0x02
-    packets = [tcp_frame(mac, address, peer, 50000, syn)]
-    packets += [tcp_frame(mac, address, peer, 50000, ack)] * 599
-    packets += [tcp_frame(mac, address, bytes([203, 0, 113, 9]), 50001, syn)] * 200
-    packets += [udp_frame(mac, address, DNS_SERVER, 53)] * 100
-    packets += [tcp_frame(bytes.fromhex("0200000000fd"), address, peer, 50000, syn)] * 100
-    make_capture(f"{folder}/long.pcap", packets, 1000)
-    make_capture(f"{folder}/short.pcap", packets, 100)
-    spread = [
-        tcp_frame(mac_of(thing), address_of(thing), peer_of(thing % FILES, entry), 50000 + entry, syn)
-        for entry in range(ENTRIES_A_SIDE)
-        for thing in range(THINGS)
-    ]
-    make_capture(f"{folder}/spread.pcap", spread[:8000], 125)
-    with open(f"{folder}/rules", "w") as rules:
-        others = [f"host 172.16.{n // 250}.{n % 250 + 1}" for n in range(1023)]
-        rules.write(" or ".join(others + ["host 10.0.1.0"]) + "\n")
-
-
-def request(method, target, moment, body=b""):
-    length = f"Content-Length: {len(body)}\r\n" if method != "GET" else ""
-    return f"{method} {target} HTTP/1.1\r\nMud-Moment: {moment}\r\n{length}\r\n".encode() + body
-
-
-def announcement(mac, url):
-    message = bytes.fromhex("0101060000000001") + bytes(20) + mac + bytes(202) + bytes.fromhex("63825363350101")
-    return message + bytes([161, len(url)]) + url + b"\xff"
-
-
-def stated(**members):
-    return json.dumps(members, separators=(",", ":")).encode()
-
-
-def make_small(path, pairs):
-    mac, address, peer = mac_of(0), address_of(0), peer_of(0, 0)
-    judged = tcp_frame(mac, address, peer, 50000, 0x02)
-    with open(path, "wb") as requests:
-        requests.write(request("POST", "/hear/dhcp", MOMENT, announcement(mac, url_of(0).encode())))
-        lease = stated(mac=mac.hex(":"), address="10.0.1.0", seconds=4294967295)
-        requests.write(request("POST", "/leases", MOMENT, lease))
-        for number in range(pairs):
-            moment = MOMENT + number // 100
-            requests.write(request("POST", "/packets", moment, judged))
-            seen = stated(name=name_of(number % 128, number // 128 % 16), address="198.18.1.0", ttl=3600)
-            requests.write(request("POST", "/names", moment, seen))
-
-
-def make_replay(folder):
-    for name, pairs in (("small", 100000), ("more", 4000), ("some", 3000)):
-        make_small(f"{folder}/{name}.requests", pairs)
-    with open(f"{folder}/things.requests", "wb") as requests:
-        for thing in range(THINGS):
-            requests.write(request("POST", "/hear/dhcp", MOMENT, announcement(mac_of(thing), url_of(thing % FILES).encode())))
-            where = ".".join(map(str, address_of(thing)))
-            lease = stated(mac=mac_of(thing).hex(":"), address=where, seconds=86400)
-            requests.write(request("POST", "/leases", MOMENT, lease))
-    with open(f"{folder}/listings.requests", "wb") as requests:
-        for _ in range(200000):
-            requests.write(request("GET", "/things", MOMENT))
-
-
-def put(kind, name, body):
-    return (
-        f"INSERT INTO item (kind, name, body) VALUES ({kind}, X'{name.hex()}', X'{body.hex()}')"
-        " ON CONFLICT (kind, name) DO UPDATE SET body = excluded.body;\n"
-    )
-
-
-def make_keeper(folder, count):
-    with open(f"{folder}/requests", "wb") as requests, open(f"{folder}/statements", "w") as statements:
-        statements.write(f"PRAGMA journal_mode = WAL;\nPRAGMA synchronous = FULL;\n{TABLE};\n")
-        for number in range(int(count)):
-            moment = MOMENT + number
-            name, address = name_of(number % 64, 0), peer_of(number % 64, 0)
-            where = ".".join(map(str, address))
-            requests.write(request("POST", "/names", moment, stated(name=name, address=where, ttl=3600)))
-            statements.write("BEGIN;\n")
-            statements.write(put(5, name.encode(), b"\1\0\1" + ending(address, moment + 3600)))
-            statements.write(put(6, b"", b"\1" + struct.pack(">Q", moment)))
-            statements.write("COMMIT;\n")
+    frames = [tcp_frame(mac, address, peer, 50000, syn)] + [tcp_frame(mac, address, peer, 50000, ack)] * 599
+    frames += [tcp_frame(mac, address, bytes([203, 0, 113, 9]), 50001, syn)] * 200
+    frames += [frame(mac, address, DNS_SERVER, 17, struct.pack(">HHHH", 40000, 53, 8, 0))] * 100
+    frames += [tcp_frame(bytes.fromhex("0200000000fd"), address, peer, 50000, syn)] * 100
+    write_capture(folder / "long.pcap", frames, 1000)
+    write_capture(folder / "short.pcap", frames, 100)
+    spread = [tcp_frame(mac_of(thing), address_of(thing), peer_of(thing % FILES, n), 50000 + n, syn)
+              for n in range(ENTRIES_A_SIDE) for thing in range(THINGS)]
+    write_capture(folder / "spread.pcap", spread[:8000], 125)
+    with open(folder / "rules", "w", encoding="ascii") as rules:
+        rules.write(" or ".join([f"host 172.16.{n // 250}.{n % 250 + 1}" for n in range(1023)] + ["host 10.0.1.0"]) + "\n")
 
 
 def block(kind, body):
@@ -253,19 +177,74 @@ def block(kind, body):
 
 
 def make_pcapng(path, result):
-    with open(path, "rb") as file:
-        octets = file.read()
+    """The packets of a capture in the classic format in pcapng, behind the 48 octets of a section and an interface."""
     blocks = [block(0x0A0D0D0A, struct.pack("<IHHq", 0x1A2B3C4D, 1, 0, -1)), block(1, struct.pack("<HHI", 1, 0, 262144))]
-    place = 24
-    while place < len(octets):
+    octets = program.read(path)
+    for place, end in itertools.pairwise(program.packet_ends(octets)):
         seconds, parts, captured, length = struct.unpack_from("<IIII", octets, place)
         time = seconds * 1000000 + parts
-        head = struct.pack("<IIIII", 0, time >> 32, time & 0xFFFFFFFF, captured, length)
-        blocks.append(block(6, head + octets[place + 16 : place + 16 + captured]))
-        place += 16 + captured
+        blocks.append(block(6, struct.pack("<IIIII", 0, time >> 32, time & 0xFFFFFFFF, captured, length) + octets[place + 16:end]))
     with open(result, "wb") as file:
-        file.write(b"".join(blocks))
+        file.writelines(blocks)
 
 
-if __name__ == "__main__":
-    {"judge": make_judge, "replay": make_replay, "keeper": make_keeper, "pcapng": make_pcapng}[sys.argv[1]](*sys.argv[2:])
+# ---- Requests
+
+def posted(target, body=b"", moment=MOMENT, method="POST", **members):
+    return program.request(method, target, body or compact(members), moment)
+
+
+def announced(thing, url):
+    return posted("/hear/dhcp", session.announcement(mac_of(thing).hex(":"), url))
+
+
+def leased(thing, address, seconds=86400, moment=MOMENT):
+    return posted("/leases", moment=moment, mac=mac_of(thing).hex(":"), address=address, seconds=seconds)
+
+
+def observed(name, address, ttl=86400, moment=MOMENT):
+    return posted("/names", moment=moment, name=name, address=address, ttl=ttl)
+
+
+def small_requests(pairs):
+    """Behind those that make a Thing, by turns a packet and the observation of a name."""
+    packet = tcp_frame(mac_of(0), address_of(0), peer_of(0, 0), 50000, 0x02)
+    yield announced(0, url_of(0)) + leased(0, "10.0.1.0", 4294967295)
+    for number in range(pairs):
+        moment = MOMENT + number // 100
+        yield posted("/packets", packet, moment) + observed(name_of(number % 128, number // 128 % 16), "198.18.1.0", 3600, moment)
+
+
+def write_requests(path, requests):
+    with open(path, "wb") as file:
+        file.writelines(requests)
+
+
+def make_things(folder):
+    """Requests that make 512 Things with a lease each."""
+    write_requests(folder / "things.requests", (announced(thing, url_of(thing % FILES)) + leased(thing, dotted(address_of(thing)))
+                                                for thing in range(THINGS)))
+
+
+def make_replay(folder):
+    """Small requests, 200,000 of them or the first 8,000 or 6,000; and 200,000 listings of 512 Things."""
+    for name, pairs in (("small", 100000), ("more", 4000), ("some", 3000)):
+        write_requests(folder / (name + ".requests"), small_requests(pairs))
+    make_things(folder)
+    write_requests(folder / "listings.requests", itertools.repeat(program.request("GET", "/things", moment=MOMENT), 200000))
+
+
+def put(kind, name, body):
+    return (f"INSERT INTO item (kind, name, body) VALUES ({kind}, X'{name.hex()}', X'{body.hex()}')"
+            " ON CONFLICT (kind, name) DO UPDATE SET body = excluded.body;\n")
+
+
+def make_keeper(folder, count):
+    """So many observations of 64 names, each of which changes the tables; and for sqlite3 the table of items and the same
+    changes, a transaction each: the name's item and the last moment's."""
+    changes = [(name_of(number % 64, 0), peer_of(number % 64, 0), MOMENT + number) for number in range(count)]
+    write_requests(folder / "requests", (observed(name, dotted(address), 3600, moment) for name, address, moment in changes))
+    with open(folder / "statements", "w", encoding="ascii") as statements:
+        statements.write(f"PRAGMA journal_mode = WAL;\nPRAGMA synchronous = FULL;\n{program.ITEMS};\n")
+        for name, address, moment in changes:
+            statements.write(f"BEGIN;\n{put(*name_item(name, [address], [moment + 3600]))}{put(*stamp(moment))}COMMIT;\n")

@@ -13,6 +13,7 @@ HERE = os.path.dirname(os.path.dirname(os.path.abspath(__file__)))
 sys.path[:1] = [HERE, os.path.join(HERE, "bench")]
 os.chdir(HERE)
 
+BATCH = 16
 NAME = "bench/" + os.path.basename(sys.argv[0])
 # Valgrind counts an instruction of the processor that fills or copies many octets once for each octet, though it takes
 # no longer for them than others do. So the C library is told to do without these.
@@ -45,14 +46,18 @@ class Folder(tempfile.TemporaryDirectory):
         return self
 
 
+def timed(call):
+    """The seconds by the clock that a call takes, those for which its processes ran on a processor, and what it answers."""
+    began, before = time.monotonic(), resource.getrusage(resource.RUSAGE_CHILDREN)
+    answer = call()
+    after = resource.getrusage(resource.RUSAGE_CHILDREN)
+    return time.monotonic() - began, after.ru_utime + after.ru_stime - before.ru_utime - before.ru_stime, answer
+
+
 def run(words, source=os.devnull, out=os.devnull):
     """Runs a command on a file to its end: the seconds by the clock, those on a processor, and its status."""
     with open(source, "rb") as given, open(out, "wb") as taker:
-        began, before = time.monotonic(), resource.getrusage(resource.RUSAGE_CHILDREN)
-        status = subprocess.run(words, stdin=given, stdout=taker, stderr=subprocess.DEVNULL, check=False).returncode
-        after = resource.getrusage(resource.RUSAGE_CHILDREN)
-    ran = after.ru_utime + after.ru_stime - before.ru_utime - before.ru_stime
-    return time.monotonic() - began, ran, status
+        return timed(lambda: subprocess.run(words, stdin=given, stdout=taker, stderr=subprocess.DEVNULL, check=False).returncode)
 
 
 def by_clock(words, source=os.devnull, out=os.devnull):
@@ -73,13 +78,6 @@ def best_by_turns(runs, **ways):
     return best
 
 
-def memory_of(process):
-    """The memory in kB that a process has now, and the most that it had so far."""
-    with open(f"/proc/{process.pid}/status", encoding="ascii") as status:
-        found = {line.split()[0]: line.split()[1] for line in status if line.startswith(("VmRSS:", "VmHWM:"))}
-    return int(found["VmRSS:"]), int(found["VmHWM:"])
-
-
 def most_memory(words, source):
     """The most memory in kB that a command takes for a file. It comes through a pipe that stays open, so that the
     program still waits for more when the system is asked for its peak."""
@@ -90,6 +88,13 @@ def most_memory(words, source):
         peak = memory_of(process)[1]
         process.stdin.close()
     return peak
+
+
+def memory_of(process):
+    """The memory in kB that a process has now, and the most that it had so far."""
+    with open(f"/proc/{process.pid}/status", encoding="ascii") as status:
+        found = {line.split()[0]: line.split()[1] for line in status if line.startswith(("VmRSS:", "VmHWM:"))}
+    return int(found["VmRSS:"]), int(found["VmHWM:"])
 
 
 def counts_instructions():
@@ -117,8 +122,48 @@ class Bounds:
     def most(self, figure, bound, text):
         """The figure is at most the bound."""
         if figure > bound:
-            print(f"{NAME}: {text}", file=sys.stderr)
-            self.status = 1
+            self.miss(text)
+
+    def miss(self, text):
+        print(f"{NAME}: {text}", file=sys.stderr)
+        self.status = 1
+
+
+class Console:
+    """A `mud replay` over a store in memory."""
+
+    def __init__(self, program):
+        self.process = subprocess.Popen([program, "replay", ":memory:"], stdin=subprocess.PIPE, stdout=subprocess.PIPE)
+        # what its start takes isn't counted
+        self.ask([b"GET /due HTTP/1.1\r\nMud-Moment: 0\r\n\r\n"])
+
+    def answer(self):
+        """The status and the body of the next answer."""
+        first = self.process.stdout.readline() or stop("the program ended")
+        head = b"".join(iter(self.process.stdout.readline, b"\r\n"))
+        return int(first.split()[1]), self.process.stdout.read(int(re.search(rb"Content-Length: (\d+)", head)[1]))
+
+    def ask(self, requests, wanted=b""):
+        """Sends requests, some behind one another, each of which is answered so; the seconds that the program ran for them."""
+        before = self.seconds_run()
+        for batch in (requests[at:at + BATCH] for at in range(0, len(requests), BATCH)):
+            self.process.stdin.write(b"".join(batch))
+            self.process.stdin.flush()
+            for status, body in [self.answer() for _ in batch]:
+                if status != 200 or wanted not in body:
+                    stop(f"an answer is {status} {body.decode()} and has no {wanted.decode()}")
+        return self.seconds_run() - before
+
+    def seconds_run(self):
+        """For how long the program has run on a processor."""
+        with open(f"/proc/{self.process.pid}/schedstat", encoding="ascii") as times:
+            return int(times.read().split()[0]) / 1e9
+
+    def memory(self):
+        return memory_of(self.process)[1]
+
+    def close(self):
+        self.process.communicate()
 
 
 def copy_head(source, size, to):
@@ -135,3 +180,10 @@ def count_lines(path):
 def same(one, other):
     """Whether two files have the same octets."""
     return subprocess.run(["cmp", "-s", one, other], check=False).returncode == 0
+
+
+def in_folder(work):
+    """Ends with the status that the work has in a folder for its files."""
+    with Folder() as folder:
+        status = work(folder)
+    sys.exit(status)

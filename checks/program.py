@@ -7,6 +7,7 @@ import shutil
 import socket
 import struct
 import subprocess
+import threading
 import time
 
 from checks.texts import HERE
@@ -40,16 +41,31 @@ def run(*words, input=b"", out=None, program=PROGRAM, **more):
     return Ended(ran.returncode, written, errors, left)
 
 
-def run_in_pieces(pieces, *words, pause=0.01):
-    """The same of an input that comes in pieces, with a pause between two."""
-    with subprocess.Popen([PROGRAM, *words], stdin=subprocess.PIPE, stdout=subprocess.PIPE, bufsize=0) as ran:
-        with contextlib.suppress(BrokenPipeError):
-            for number, piece in enumerate(pieces):
-                time.sleep(pause if number else 0)
-                ran.stdin.write(piece)
-        ran.stdin.close()
-        written = ran.stdout.read()
-    return Ended(ran.returncode, written, b"", None)
+def run_by_reads(pieces, *words, program=PROGRAM, errors=subprocess.PIPE):
+    """The same of an input of which each read gives one of these pieces: a socket of this kind gives one packet a read.
+    What of a packet a reader has no room for is lost."""
+    ours, theirs = socket.socketpair(socket.AF_UNIX, socket.SOCK_SEQPACKET)
+    with ours:
+        with theirs:
+            ran = subprocess.Popen([program, *words], stdin=theirs, stdout=subprocess.PIPE, stderr=errors)
+        giver = threading.Thread(target=send_all, args=(ours, pieces))
+        giver.start()
+        try:
+            written, said = ran.communicate(timeout=SECONDS)
+        except subprocess.TimeoutExpired:
+            ran.kill()
+            return Ended(None, *ran.communicate(), None)
+        finally:
+            giver.join()
+    return Ended(ran.returncode, written, said, None)
+
+
+def send_all(port, pieces):
+    """Sends pieces while somebody takes them, and that there is no more."""
+    with contextlib.suppress(OSError):
+        for piece in pieces:
+            port.send(piece)
+        port.shutdown(socket.SHUT_WR)
 
 
 @contextlib.contextmanager
@@ -75,13 +91,13 @@ Answer = collections.namedtuple("Answer", "status closes body octets")
 
 
 def answers(octets):
-    """The answers that octets have, each whole."""
+    """The answers that octets have; the last one may be cut."""
     found = []
     while octets:
         head, end, rest = octets.partition(b"\r\n\r\n")
         length = int(re.search(rb"\r\nContent-Length: ([0-9]+)", head)[1]) if end else 0
         whole = octets[:len(head) + len(end) + length]
-        found.append(Answer(int(head.split()[1]), b"\r\nConnection: close" in head, rest[:length], whole))
+        found.append(Answer(int(head.split()[1]) if end else 0, b"\r\nConnection: close" in head, rest[:length], whole))
         octets = rest[length:]
     return found
 
@@ -157,6 +173,15 @@ class Server:
         case.note(what + ", octets printed", b"", self.kill())
 
 
+TABLES = ("things", "files", "classes", "locals", "names")
+
+
+def tables_of(store):
+    """The listings of a store that is opened again, and the status."""
+    ended = run("replay", store, input=b"".join(request("GET", "/" + table, moment=0) for table in TABLES))
+    return ended.status, ended.out
+
+
 # ---- Captures and stores
 
 def capture(packets, link=1):
@@ -165,15 +190,28 @@ def capture(packets, link=1):
     return head + b"".join(struct.pack("<IIII", second, 0, len(octets), len(octets)) + octets for second, octets in packets)
 
 
-def packet_ends(octets):
-    """The offsets behind the header of a capture in the classic format and behind each packet that is whole."""
-    ends = [24]
-    while ends[-1] + 16 <= len(octets):
-        end = ends[-1] + 16 + int.from_bytes(octets[ends[-1] + 8:ends[-1] + 12], "little")
-        if end > len(octets):
+def packets_of(octets):
+    """The packets that are whole of a capture in the classic format, up to its end or its first fault: of each the offset
+    behind it, its second and its octets."""
+    order = {b"\xd4\xc3\xb2\xa1": "<", b"\x4d\x3c\xb2\xa1": "<", b"\xa1\xb2\xc3\xd4": ">", b"\xa1\xb2\x3c\x4d": ">"}.get(octets[:4])
+    found, end = [], 24
+    if len(octets) < 24 or not order or struct.unpack_from(order + "HH12xI", octets, 4) != (2, 4, 1):
+        return found
+    while end + 16 <= len(octets):
+        second, _, size, _ = struct.unpack_from(order + "IIII", octets, end)
+        if size > 262144 or end + 16 + size > len(octets):
             break
-        ends.append(end)
-    return ends
+        found.append((end + 16 + size, second, octets[end + 16:end + 16 + size]))
+        end += 16 + size
+    return found
+
+
+def packet_ends(octets):
+    """The offsets behind the header of a capture and behind each packet that is whole."""
+    return [24] + [end for end, _, _ in packets_of(octets)]
+
+
+ITEMS = "CREATE TABLE item (kind INTEGER NOT NULL, name BLOB NOT NULL, body BLOB NOT NULL, PRIMARY KEY (kind, name)) STRICT"
 
 
 def clear_store(store):

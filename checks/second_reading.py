@@ -12,9 +12,11 @@ import random
 import struct
 from datetime import datetime
 
+from checks import session
+from checks.program import request
+
 FOREVER = 2**64 - 1
 DNS, NTP = "urn:ietf:params:mud:dns", "urn:ietf:params:mud:ntp"
-PHRASES = {200: "OK", 409: "Conflict"}
 
 
 class Refused(Exception):
@@ -199,10 +201,8 @@ class Manager:
         return "new", end_text(until)
 
     def end_lease(self, address):
-        for thing in self.things.values():
-            if address in thing["leases"]:
-                del thing["leases"][address]
-                return "ended"
+        if any(thing["leases"].pop(address, None) for thing in self.things.values()):
+            return "ended"
         raise Refused("things", 5, "NoLease")
 
     # -- Usage files
@@ -482,6 +482,7 @@ CLASSES = [DNS, NTP, "urn:example:hub"]
 PREFIXES = [ipaddress.ip_network(p) for p in
             ["192.0.2.0/24", "192.0.2.8/29", "198.51.100.0/24", "0.0.0.0/0", "2001:db8::/32", "2001:db8::4/126"]]
 PORTS = [53, 80, 123, 443, 50000, 50001]
+SELECTORS = ["manufacturer", "same-manufacturer", "model", "local-networks", "controller", "my-controller"]
 
 
 class Maker:
@@ -510,12 +511,9 @@ class Maker:
         """An entry as it is meant, and as it is written in a file."""
         pick, selectors, mud, layer = self.random.choice, [], {}, None
         if self.maybe(0.6):
-            for kind in self.random.sample(["manufacturer", "same-manufacturer", "model", "local-networks",
-                                            "controller", "my-controller"], pick([1, 1, 1, 2])):
-                mud[kind] = {"manufacturer": host_of(pick(URLS)), "model": pick(URLS),
-                             "controller": pick(CLASSES)}.get(kind, [None])
-            selectors = [(kind, mud[kind]) for kind in ("manufacturer", "same-manufacturer", "model", "local-networks",
-                                                        "controller", "my-controller") if kind in mud]
+            for kind in self.random.sample(SELECTORS, pick([1, 1, 1, 2])):
+                mud[kind] = {"manufacturer": host_of(pick(URLS)), "model": pick(URLS), "controller": pick(CLASSES)}.get(kind, [None])
+            selectors = [(kind, mud[kind]) for kind in SELECTORS if kind in mud]
         peer, own = ("destination", "source") if side == "from" else ("source", "destination")
         ip, protocol, own_prefix = {}, None, None
         if self.maybe(0.15):
@@ -531,17 +529,12 @@ class Maker:
             name = pick(NAMES)
             ip[f"ietf-acldns:{'dst' if side == 'from' else 'src'}-dnsname"] = name
             selectors.append(("name", name))
-        matches = {}
-        if mud:
-            matches["ietf-mud:mud"] = mud
-        if ip:
-            matches[f"ipv{family}"] = ip
+        matches = {name: tests for name, tests in (("ietf-mud:mud", mud), (f"ipv{family}", ip)) if tests}
         kind = pick([None, None, "tcp", "tcp", "udp", "icmp"])
         if kind in ("tcp", "udp"):
             (source, source_text), (destination, destination_text) = self.port_test(), self.port_test()
             layer = (kind, source, destination)
-            matches[kind] = {key: text for key, text in (("source-port", source_text),
-                                                         ("destination-port", destination_text)) if text}
+            matches[kind] = {key: text for key, text in (("source-port", source_text), ("destination-port", destination_text)) if text}
             if kind == "tcp":
                 begun = pick([None, "from-device", "from-device", "to-device"])
                 layer += (begun,)
@@ -551,9 +544,8 @@ class Maker:
             layer = ("icmp", pick([None, 8, 128]), pick([None, 0]))
             matches[kind] = {key: value for key, value in (("type", layer[1]), ("code", layer[2])) if value is not None}
         action = pick(["accept", "accept", "accept", "drop", "reject"])
-        meant = {"name": f"e{number}", "acl": f"{side}{family}", "family": family, "selectors": selectors,
-                 "own": own_prefix, "protocol": protocol, "layer": layer,
-                 "action": "accept" if action == "accept" else "drop"}
+        meant = {"name": f"e{number}", "acl": f"{side}{family}", "family": family, "selectors": selectors, "own": own_prefix,
+                 "protocol": protocol, "layer": layer, "action": "accept" if action == "accept" else "drop"}
         return meant, {"name": meant["name"], "matches": matches, "actions": {"forwarding": action}}
 
     def usage_file(self, url):
@@ -579,50 +571,33 @@ class Maker:
 
     # -- Octets
 
-    def dhcp(self, mac, kind, address=None, options=b""):
-        message = bytearray(240)
-        message[0], message[1], message[2] = kind, 1, 6
-        message[28:34] = bytes.fromhex(mac.replace(":", ""))
-        message[236:240] = bytes.fromhex("63825363")
-        if address:
-            message[16:20] = address.packed
-        return bytes(message) + options + b"\xff"
-
     def frame(self):
         pick = self.random.choice
         known = [(mac, a) for mac, t in self.manager.things.items() for a in t["leases"]]
-        mac, address = pick(known) if known and self.maybe(0.85) else (pick(MACS), pick(ADDRESSES))
-        others = [(m, a) for m, a in known if a.version == address.version]
-        far, peer = pick(others) if others and self.maybe(0.3) else (
-            pick(FAR), pick([a for a in ADDRESSES if a.version == address.version]))
-        first, second = (mac, address), (far, peer)
+        first = pick(known) if known and self.maybe(0.85) else (pick(MACS), pick(ADDRESSES))
+        others, version = [(m, a) for m, a in known if a.version == first[1].version], first[1].version
+        second = pick(others) if others and self.maybe(0.3) else (pick(FAR), pick([a for a in ADDRESSES if a.version == version]))
         if self.maybe(0.4):
             first, second = second, first
         kind = pick(["tcp", "tcp", "tcp", "udp", "icmp", "other"])
         if kind == "tcp":
-            protocol, layer = 6, struct.pack(">HHIIBBHHH", pick(PORTS), pick(PORTS), 1, 0, 0x50, pick([2, 2, 16, 18, 4, 17]),
-                                             65535, 0, 0)
+            protocol, layer = 6, struct.pack(">HHIIBBHHH", pick(PORTS), pick(PORTS), 1, 0, 0x50, pick([2, 2, 16, 18, 4, 17]), 65535, 0, 0)
         elif kind == "udp":
             protocol, layer = 17, struct.pack(">HHHH", pick(PORTS + [67, 68]), pick(PORTS + [67, 68]), 8, 0)
         elif kind == "icmp":
-            protocol, layer = (1 if address.version == 4 else 58), bytes([pick([8, 128, 133]), pick([0, 1]), 0, 0])
+            protocol, layer = (1 if version == 4 else 58), bytes([pick([8, 128, 133]), pick([0, 1]), 0, 0])
         else:
             protocol, layer = pick([2, 50]), bytes(8)
-        if address.version == 4:
-            fragment = pick([0] * 9 + [1])
-            packet = struct.pack(">BBHHHBBH", 0x45, 0, 20 + len(layer), 1, fragment, 64, protocol, 0)
-            packet += first[1].packed + second[1].packed + layer
+        if version == 4:
+            kind, head = b"\x08\x00", struct.pack(">BBHHHBBH", 0x45, 0, 20 + len(layer), 1, pick([0] * 9 + [1]), 64, protocol, 0)
         else:
             if self.maybe(0.2):
                 layer, protocol = bytes([protocol, 0]) + bytes(6) + layer, pick([0, 43, 60, 44])
-            packet = struct.pack(">IHBB", 6 << 28, len(layer), protocol, pick([64, 255]))
-            packet += first[1].packed + second[1].packed + layer
+            kind, head = b"\x86\xdd", struct.pack(">IHBB", 6 << 28, len(layer), protocol, pick([64, 255]))
         tag = b"\x81\x00\x00\x64" if self.maybe(0.1) else b""
         hard = bytes.fromhex((second[0] + first[0]).replace(":", ""))
-        frame = hard + tag + (b"\x08\x00" if address.version == 4 else b"\x86\xdd") + packet
-        if self.maybe(0.05):
-            frame = frame[:self.random.randrange(len(frame))]
-        return frame
+        frame = hard + tag + kind + head + first[1].packed + second[1].packed + layer
+        return frame[:self.random.randrange(len(frame))] if self.maybe(0.05) else frame
 
     # -- Requests
 
@@ -636,12 +611,12 @@ class Maker:
         seconds = pick([1, 5, 60, 600, 86400, 2**32 - 1])
         if kind == "url":
             text = url.encode() + pick([b"", b" x", b"\0"])
-            body = self.dhcp(mac, 1, None, b"\x35\x01\x03\xa1" + bytes([len(text)]) + text)
+            body = session.dhcp_message("01", mac, b"\x35\x01\x03\xa1" + bytes([len(text)]) + text)
             return "POST", "/hear/dhcp", body, lambda: {"heard": "url", "mac": mac, "result": desk.announce(mac, url), "url": url}
         if kind == "lease heard":
             while address.version == 6:
                 address = pick(ADDRESSES)
-            body = self.dhcp(mac, 2, address, b"\x35\x01\x05\x33\x04" + struct.pack(">I", seconds))
+            body = session.acknowledgement(mac, address, seconds)
             return "POST", "/hear/dhcp", body, lambda: dict(
                 zip(("result", "until"), desk.lease(mac, address, seconds, now, True)), address=str(address), heard="lease", mac=mac)
         if kind == "lease":
@@ -711,9 +686,7 @@ class Maker:
         except Refused as refusal:
             book, number, rule = refusal.args
             status, said = 409, {"book": book, "refused": number, "rule": rule}
-        text = json.dumps(said, separators=(",", ":"), sort_keys=True).encode()
-        return (f"HTTP/1.1 {status} {PHRASES[status]}\r\nContent-Type: application/json\r\n"
-                f"Content-Length: {len(text)}\r\n\r\n").encode() + text
+        return session.answer(status, json.dumps(said, separators=(",", ":"), sort_keys=True))
 
     def session(self, count, clock):
         """The requests of a session, each with its answer, and the moment at its end."""
@@ -724,7 +697,6 @@ class Maker:
             given = clock - self.random.randrange(20) if self.maybe(0.05) else clock
             now = max(given, self.manager.moment)
             method, target, body, work = self.request(now)
-            octets = body if isinstance(body, bytes) else json.dumps(body).encode()
-            head = f"{method} {target} HTTP/1.1\r\nMud-Moment: {given}\r\nContent-Length: {len(octets)}\r\n\r\n"
-            pairs.append((head.encode() + octets, self.answer(target, work, now)))
+            octets = request(method, target, body if isinstance(body, bytes) else json.dumps(body), given)
+            pairs.append((octets, self.answer(target, work, now)))
         return pairs, clock

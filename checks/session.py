@@ -52,6 +52,14 @@ def letters(count):
     return "a" * max(count, 0)
 
 
+def answer(status, body, *headers, closes=False):
+    """The octets of an answer with this body, and these header lines before its length."""
+    body = body.encode() if isinstance(body, str) else body
+    head = [f"HTTP/1.1 {status} {PHRASES[status]}", "Content-Type: application/json", *headers, f"Content-Length: {len(body)}",
+            *(["Connection: close"] if closes else [])]
+    return octets_of("\r\n".join(head) + "\r\n\r\n") + body
+
+
 def dhcp_message(op, mac, options, given="0.0.0.0"):
     """A DHCP message of these options: what it is, the address given, the hardware address."""
     fixed = bytes.fromhex(op + "01060000000001") + bytes(8) + ipaddress.ip_address(given).packed + bytes(8)
@@ -214,9 +222,8 @@ class Reader:
             return
         closes = text.startswith("closes ")
         body = body_of(text.removeprefix("closes "))
-        head = [f"HTTP/1.1 {status} {PHRASES[status]}", "Content-Type: application/json", *self.headers,
-                f"Content-Length: {len(body)}", *(["Connection: close"] if closes else [])]
-        self.run.wanted += octets_of("\r\n".join(head) + "\r\n\r\n") + (body if self.method != "HEAD" else b"")
+        octets = answer(status, body, *self.headers, closes=closes)
+        self.run.wanted += octets[:len(octets) - len(body)] if self.method == "HEAD" else octets
         self.run.places.append((self.head_end, len(self.run.octets), len(self.run.wanted)))
         self.run.requests.append((self.method, self.target, status, self.body, body))
 
@@ -224,6 +231,13 @@ class Reader:
 def runs_of(path):
     """The runs of the session at a path below the top."""
     return Reader(texts.lines(path)).runs
+
+
+def requests_of(path):
+    """The requests of the first run of a session, each with its octets."""
+    one = runs_of(path)[0]
+    ends = [end for _, end, _ in one.places]
+    return [one.octets[begin:end] for begin, end in zip([0] + ends, ends)]
 
 
 def run_of_steps(*names):

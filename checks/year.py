@@ -9,6 +9,7 @@ import struct
 import time
 
 from bench import inputs
+from checks import program, session
 
 MONTHS = 12
 DAY = 86_400
@@ -28,10 +29,6 @@ DNS_CLASS = "urn:ietf:params:mud:dns"
 
 def begin_of(month):
     return BEGIN + month * MONTH
-
-
-def text_of(address):
-    return ".".join(map(str, address))
 
 
 # ---- Names, files and frames
@@ -60,7 +57,7 @@ def usage_file(url, month):
     names += [name_of(LASTING + number, month) for number in range(NAMED)] if url == 0 else []
     matches = {side: [any_peer(side)] + [inputs.name_matches(side, name) for name in names] for side in ("from", "to")}
     update = time.strftime("%Y-%m-%dT%H:%M:%SZ", time.gmtime(begin_of(month)))
-    return inputs.usage_file(inputs.url_of(url), matches, update)
+    return inputs.usage_file(inputs.url_of(url), matches, **{"last-update": update})
 
 
 def tcp_frames(thing, port, peer, flags):
@@ -80,31 +77,31 @@ def connection(number, flags):
 # ---- The requests of a year
 
 def posted(moment, target, body, method="POST"):
-    return moment, inputs.request(method, target, moment, body)
+    return moment, program.request(method, target, body, moment)
 
 
 def leased(moment, thing, seconds=LEASE):
-    body = inputs.stated(mac=inputs.mac_of(thing).hex(":"), address=text_of(inputs.address_of(thing)), seconds=seconds)
+    body = inputs.compact(dict(mac=inputs.mac_of(thing).hex(":"), address=inputs.dotted(inputs.address_of(thing)), seconds=seconds))
     return posted(moment, "/leases", body)
 
 
 def approved(moment, octets, url):
     digest = hashlib.sha256(octets).hexdigest()
     yield posted(moment, "/files", octets)
-    yield posted(moment, "/verdicts", inputs.stated(url=inputs.url_of(url), sha256=digest, verdict="waived"))
+    yield posted(moment, "/verdicts", inputs.compact(dict(url=inputs.url_of(url), sha256=digest, verdict="waived")))
 
 
 def bound(moment, word, number, method="POST"):
-    address = text_of(bytes([10, 9]) + struct.pack(">H", number))
-    return posted(moment, "/classes", inputs.stated(**{"class": word, "address": address}), method)
+    address = inputs.dotted(bytes([10, 9]) + struct.pack(">H", number))
+    return posted(moment, "/classes", inputs.compact({"class": word, "address": address}), method)
 
 
 def beginning(seconds=LEASE):
     """What a store has before the first month: Things with leases, a DNS server, and an approved file of each URL."""
     for thing in range(THINGS):
-        yield posted(BEGIN, "/hear/dhcp", inputs.announcement(inputs.mac_of(thing), inputs.url_of(thing % URLS).encode()))
+        yield posted(BEGIN, "/hear/dhcp", session.announcement(inputs.mac_of(thing).hex(":"), inputs.url_of(thing % URLS)))
         yield leased(BEGIN, thing, seconds)
-    yield posted(BEGIN, "/classes", inputs.stated(**{"class": DNS_CLASS, "address": text_of(inputs.DNS_SERVER)}))
+    yield posted(BEGIN, "/classes", inputs.compact({"class": DNS_CLASS, "address": inputs.dotted(inputs.DNS_SERVER)}))
     for url in range(URLS):
         yield from approved(BEGIN, usage_file(url, 0), url)
 
@@ -120,7 +117,7 @@ def changed_names(month):
     """All names change within the month."""
     for number in range(NAMES):
         moment = begin_of(month) + number * MONTH // NAMES
-        yield posted(moment, "/names", inputs.stated(name=name_of(number, month), address=text_of(peer_of(number, month)), ttl=DAY))
+        yield posted(moment, "/names", inputs.compact(dict(name=name_of(number, month), address=inputs.dotted(peer_of(number, month)), ttl=DAY)))
 
 
 def changed_classes(month):
@@ -132,7 +129,7 @@ def changed_classes(month):
         yield bound(moment, f"urn:example:class{number:03}-{month:02}", number)
     for day, count in ((5, 0), (6, LOCALS // 2), (7, LOCALS)):
         prefixes = [f"10.{16 + month}.{number}.0/24" for number in range(count)]
-        yield posted(begin_of(month) + day * DAY, "/locals", inputs.stated(prefixes=prefixes), "PUT")
+        yield posted(begin_of(month) + day * DAY, "/locals", inputs.compact(dict(prefixes=prefixes)), "PUT")
 
 
 def flags_of(number):

@@ -318,11 +318,11 @@ class Clients:
 def asked(number):
     """What the client of this number asks: a lease, a name that is new, a packet, and lists."""
     thing, name = number % year.THINGS, year.LASTING + number % (year.NAMES - year.LASTING)
-    address = year.text_of(year.inputs.address_of(thing))
-    yield request("POST", "/leases", year.inputs.stated(mac=year.inputs.mac_of(thing).hex(":"), address=address, seconds=3600 + number), None)
+    address = year.inputs.dotted(year.inputs.address_of(thing))
+    yield request("POST", "/leases", year.inputs.compact({"mac": year.inputs.mac_of(thing).hex(":"), "address": address, "seconds": 3600 + number}), None)
     month = 1 + number // (year.NAMES - year.LASTING)
-    body = {"name": year.name_of(name, month), "address": year.text_of(year.peer_of(name, month % year.MONTHS)), "ttl": 1}
-    yield request("POST", "/names", year.inputs.stated(**body), None)
+    body = {"name": year.name_of(name, month), "address": year.inputs.dotted(year.peer_of(name, month % year.MONTHS)), "ttl": 1}
+    yield request("POST", "/names", year.inputs.compact(body), None)
     for frame in year.connection(thing, year.flags_of(thing)):
         yield request("POST", "/packets", frame, None)
     for target in ("/things", "/names", "/due"):

@@ -19,7 +19,7 @@ import shutil
 import subprocess
 
 from checks import program, session
-from checks.case import ProgramCase, needs
+from checks.case import ProgramCase, cases_of, needs
 from checks.program import answers, clear_store, copy_store, packet_ends, read, request
 
 EACH_UP_TO = 300
@@ -84,19 +84,8 @@ void *realloc(void *place, size_t size) {
 }
 """
 
-REPORTS = ("things", "files", "classes", "locals", "names")
 SYN = bytes.fromhex("0200000000fe020000000001080045000028000100004006" "0000c000020ac6336407c35001bb0000000100000000" "5002ffff00000000")
 MESSAGE = session.dhcp_message("01", "02:00:00:00:00:01", b"\x35\1\1\xa1\x2c" + b"https://lighting.example.com/lightbulb2000 x")
-
-
-def first_part_of(due):
-    """The judge of a command with this status and these lines, that keeps nothing."""
-
-    def judged(status, written, _):
-        good = (status, written) == due or (status == 5 and due[1].startswith(written))
-        return None if good else f"status {status}, {written[:200]}"
-
-    return judged
 
 
 def not_first_part(due, status, written):
@@ -105,7 +94,18 @@ def not_first_part(due, status, written):
     return None if good else f"status {status}, {written[:200]}"
 
 
+# commands that keep nothing, each with its input, and those over the network's store, which stays as it is
+PLAIN = {"hear_dhcp": (["hear", "dhcp"], MESSAGE), "hear_lldp": (["hear", "lldp"], read("examples/lldp/lldpd-mud-01.bin")),
+         "check": (["check"], read("examples/usage-files/made-lightbulb.json")),
+         "check_refused": (["check"], read("examples/usage-files/made-unknown-match.json")),
+         "frames": (["frames"], read("examples/captures/vlan-trunk.pcap")),
+         "frames_pcapng": (["frames"], read("examples/pcapng/comments-and-names.pcapng")), "drill": (["drill", "5"], b"")}
+KEEPING = {"judge": (["judge"], read("examples/judge/made-bulb.pcap")), "tally": (["tally"], read("examples/judge/made-bulb.pcap")),
+           "export": (["export", "02:00:00:00:00:01"], b"")}
+
+
 @needs("cc")
+@cases_of([*PLAIN, *KEEPING])
 class FailingAllocations(ProgramCase):
     def setUp(self):
         super().setUp()
@@ -123,12 +123,12 @@ class FailingAllocations(ProgramCase):
         return ended, os.fstat(self.seen).st_size > 0
 
     def tables(self, store):
-        """What a store keeps, by the reports of it; nothing where there is none. The same octets aren't read twice."""
+        """What a store keeps; nothing where there is none. The same octets aren't read twice."""
         octets = tuple(read(name) if os.path.exists(name) else None for name in (store, store + "-wal"))
         if octets not in self.tables_kept:
             if len(self.tables_kept) > 100:
                 self.tables_kept.clear()
-            self.tables_kept[octets] = [program.run("report", store, kind).out if octets[0] else b"" for kind in REPORTS]
+            self.tables_kept[octets] = program.tables_of(store if octets[0] else ":memory:")
         return self.tables_kept[octets]
 
     def each_failure(self, words, octets, judged, before=None):
@@ -155,18 +155,20 @@ class FailingAllocations(ProgramCase):
         ended = program.run(*words, input=octets)
         return ended.status, ended.out
 
-    def plain(self, *words, octets=b""):
-        """A command that keeps nothing."""
-        self.each_failure(words, octets, first_part_of(self.due(words, octets)))
+    def each(self, name):
+        if name in KEEPING:
+            self.keeping(*KEEPING[name])
+            return
+        words, octets = PLAIN[name]
+        due = self.due(words, octets)
+        self.each_failure(words, octets, lambda status, written, _: not_first_part(due, status, written))
 
     def network(self):
         """The store of a network; the requests that make it, with some more; and what is due to them."""
-        made = session.runs_of("examples/report/network.session")[0]
-        ends = [0] + [end for _, end, _ in made.places]
-        requests = [made.octets[begin:end] for begin, end in zip(ends, ends[1:])]
-        requests += [request("POST", "/packets", SYN, 1002), request("POST", "/why", SYN, 1002),
-                     request("DELETE", "/leases", '{"address":"192.0.2.11"}', 1002),
-                     request("GET", "/things", moment=1003), request("GET", "/files", moment=1003)]
+        requests = session.requests_of("examples/report/network.session") + [
+            request("POST", "/packets", SYN, 1002), request("POST", "/why", SYN, 1002),
+            request("DELETE", "/leases", '{"address":"192.0.2.11"}', 1002), request("GET", "/things", moment=1003),
+            request("GET", "/files", moment=1003)]
         store = self.path("network")
         clear_store(store)
         return store, requests, self.due(["replay", store], b"".join(requests))
@@ -174,46 +176,16 @@ class FailingAllocations(ProgramCase):
     def keeping(self, words, octets=b""):
         """A command over the network's store, which stays as it is."""
         store, _, _ = self.network()
-        tables, judged = self.tables(store), first_part_of(self.due([words[0], store, *words[1:]], octets))
+        tables, due = self.tables(store), self.due([words[0], store, *words[1:]], octets)
 
-        def also(status, written, at):
-            return judged(status, written, at) or (None if self.tables(at) == tables else "the store's tables have changed")
+        def judged(status, written, at):
+            return not_first_part(due, status, written) or (None if self.tables(at) == tables else "the store's tables have changed")
 
-        self.each_failure([words[0], "@", *words[1:]], octets, also, store)
-
-    def test_hear_dhcp(self):
-        self.plain("hear", "dhcp", octets=MESSAGE)
-
-    def test_hear_lldp(self):
-        self.plain("hear", "lldp", octets=read("examples/lldp/lldpd-mud-01.bin"))
-
-    def test_check(self):
-        self.plain("check", octets=read("examples/usage-files/made-lightbulb.json"))
-
-    def test_check_refused(self):
-        self.plain("check", octets=read("examples/usage-files/made-unknown-match.json"))
-
-    def test_frames(self):
-        self.plain("frames", octets=read("examples/captures/vlan-trunk.pcap"))
-
-    def test_frames_pcapng(self):
-        self.plain("frames", octets=read("examples/pcapng/comments-and-names.pcapng"))
-
-    def test_drill(self):
-        self.plain("drill", "5")
+        self.each_failure([words[0], "@", *words[1:]], octets, judged, store)
 
     def test_reports(self):
-        for kind in REPORTS:
+        for kind in program.TABLES:
             self.keeping(["report", kind])
-
-    def test_judge(self):
-        self.keeping(["judge"], read("examples/judge/made-bulb.pcap"))
-
-    def test_tally(self):
-        self.keeping(["tally"], read("examples/judge/made-bulb.pcap"))
-
-    def test_export(self):
-        self.keeping(["export", "02:00:00:00:00:01"])
 
     def test_replay(self):
         """One answer may be 507, and all else is as without that request."""
@@ -229,7 +201,7 @@ class FailingAllocations(ProgramCase):
 
         def judged(status, written, store):
             if status == 5:
-                return None if written == b"" and not any(self.tables(store)) else "status 5, and something was answered or kept"
+                return None if written == b"" and self.tables(store) == program.tables_of(":memory:") else "status 5, and something was answered or kept"
             came = answers(written)
             refused = [number for number, answer in enumerate(came) if answer.status == 507]
             if not refused:

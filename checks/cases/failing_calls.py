@@ -30,13 +30,12 @@ import socket
 import subprocess
 import tempfile
 import threading
-import time
 from concurrent.futures import ThreadPoolExecutor
 
-from checks import session
 from checks.case import ProgramCase, cases_of, needs
 from checks.cases.stopped_stores import change
-from checks.program import PROGRAM, copy_store, free_port, listens, read, run
+from checks.program import PROGRAM, answers, copy_store, free_port, listens, packets_of, read, request, run, run_by_reads, tables_of, until
+from checks.session import answer, requests_of
 
 CALLS = """open openat read pread64 readv recvfrom write pwrite64 writev sendto lseek stat fstat lstat newfstatat
     statx access faccessat faccessat2 getdents64 fsync fdatasync ftruncate fallocate flock fcntl unlink unlinkat
@@ -45,11 +44,9 @@ CALLS = """open openat read pread64 readv recvfrom write pwrite64 writev sendto 
 READS = {"read", "pread64", "readv", "recvfrom"}
 WRITES = {"write", "pwrite64", "writev", "sendto"}
 KEEPS = WRITES | {"fsync", "fdatasync", "ftruncate"}
-TABLES = ["things", "files", "classes", "locals", "names"]
 LONGEST = 60
 MOST_IN_LOG = 494
-KEEPER = (b"HTTP/1.1 503 Service Unavailable\r\nContent-Type: application/json\r\n"
-          b"Content-Length: 17\r\n\r\n{\"rule\":\"keeper\"}")
+KEEPER = answer(503, '{"rule":"keeper"}')
 ERROR = os.environ.get("ERROR", "EIO")
 
 
@@ -130,13 +127,6 @@ def ended(process):
     return process.returncode, wrote
 
 
-def tables_of(store):
-    """The listings of a store that is opened again, and the status."""
-    requests = "".join(f"GET /{table} HTTP/1.1\r\nMud-Moment: 0\r\n\r\n" for table in TABLES).encode()
-    ended = run("replay", store, input=requests)
-    return ended.status, ended.out
-
-
 class Scene:
     """A command with its items: what it takes in one after the other. Parts are what is due to each."""
     items, names, first = [], CALLS, 0
@@ -159,12 +149,8 @@ class Scene:
 
     def carry_out(self, run, items, command):
         """The program reads the pieces one by one, each by one read."""
-        reader, writer = socket.socketpair(socket.AF_UNIX, socket.SOCK_SEQPACKET)
-        with reader:
-            with writer:
-                for piece in self.input(items):
-                    writer.sendall(piece)
-            return ended(subprocess.Popen(command, stdin=reader, stdout=subprocess.PIPE, stderr=run.errors))
+        ended = run_by_reads(self.input(items), *command[1:], program=command[0], errors=run.errors)
+        return ended.status, ended.out
 
     def undisturbed(self, items):
         """The run of these items without a failure."""
@@ -195,6 +181,14 @@ class Scene:
         others = [k for k in range(len(self.items)) if k not in refused]
         wanted = [others] + [[k for k in others if k < first] + [first] for first in refused[:1]]
         return run.tables in [self.undisturbed(items).tables for items in wanted]
+
+    def is_due_but(self, run, is_refused):
+        """Whether each item has its part, none that was refused is kept, and all else is as in a run of the others."""
+        parts = self.parts(run)
+        refused = [k for k, part in enumerate(parts) if is_refused(k, part)]
+        others = [k for k in range(len(parts)) if k not in refused]
+        return (len(parts) == len(self.items) and self.is_kept_without(run, refused)
+                and [parts[k] for k in others] == self.parts(self.undisturbed(others))[:len(others)])
 
     def is_due(self, run):
         due = self.due()
@@ -229,12 +223,7 @@ class Capture(Scene):
     """Packets, of which the whole ones among the octets taken are due."""
 
     def whole(self, taken):
-        octets = b"".join(self.pieces)
-        count, at = 0, 24
-        while at + 16 <= len(octets):
-            at += 16 + int.from_bytes(octets[at + 8:at + 12], "little")
-            count += at <= min(taken, len(octets))
-        return count
+        return len(packets_of(b"".join(self.pieces)[:taken]))
 
 
 class Replay(Scene):
@@ -249,12 +238,7 @@ class Replay(Scene):
         return [octets[at:at + self.most] for at in range(0, len(octets), self.most)]
 
     def parts(self, run):
-        parts, rest = [], run.wrote
-        while rest:
-            head = re.match(rb"(?s).*?Content-Length: (\d+)\r\n(?:Connection: close\r\n)?\r\n", rest)
-            size = head.end() + int(head[1]) if head else len(rest)
-            parts, rest = parts + [rest[:size]], rest[size:]
-        return parts
+        return [answer.octets for answer in answers(run.wrote)]
 
     def whole(self, taken):
         return sum(1 for k in range(len(self.items)) if sum(map(len, self.items[:k + 1])) <= taken)
@@ -262,11 +246,7 @@ class Replay(Scene):
     def holds(self, run):
         if run.hit.on != "store" or run.status == 7:
             return super().holds(run)
-        parts = self.parts(run)
-        refused = [k for k, part in enumerate(parts) if part == KEEPER]
-        others = [k for k in range(len(parts)) if k not in refused]
-        return (run.status == 0 and len(parts) == len(self.items) and self.is_kept_without(run, refused)
-                and b"".join(parts[k] for k in others) == self.undisturbed(others).wrote)
+        return run.status == 0 and self.is_due_but(run, lambda k, part: part == KEEPER)
 
 
 class Import(Scene):
@@ -290,10 +270,7 @@ class Import(Scene):
             return run.status == 4 and is_first and self.is_left_after(run, len(parts))
         if run.hit.on != "store" or not parts or run.status != 7:
             return super().holds(run)
-        refused = [k for k, part in enumerate(parts) if part == self.items[k][0].encode() + b" keeper\n"]
-        others = [k for k in range(len(parts)) if k not in refused]
-        return (len(parts) == len(self.items) and refused and self.is_kept_without(run, refused)
-                and [parts[k] for k in others] == self.parts(self.undisturbed(others)))
+        return b" keeper\n" in run.wrote and self.is_due_but(run, lambda k, part: part == self.items[k][0].encode() + b" keeper\n")
 
 
 class Serve(Scene):
@@ -309,13 +286,13 @@ class Serve(Scene):
     def prepare(self, run, items):
         run.port = free_port()
 
+    def parts(self, run):
+        return run.wrote
+
     def carry_out(self, run, items, command):
         words = command[:-1] + [str(max(len(items), 1))]
-        server = subprocess.Popen(words, stdin=subprocess.DEVNULL, stdout=subprocess.PIPE, stderr=run.errors)
-        came = []
-        until = time.monotonic() + LONGEST
-        while server.poll() is None and not listens(run.port) and time.monotonic() < until:
-            time.sleep(0.005)
+        server, came = subprocess.Popen(words, stdin=subprocess.DEVNULL, stdout=subprocess.PIPE, stderr=run.errors), []
+        until(lambda: server.poll() is not None or listens(run.port), LONGEST, 0.005)
         for k in items or [None]:
             came.append(ask(run.port, self.items[k] if items else b"") if server.poll() is None else b"")
         status, printed = ended(server)
@@ -324,10 +301,7 @@ class Serve(Scene):
     def holds(self, run):
         due, call = self.due().wrote, run.hit
         if call.on == "store" and run.status != 7:
-            refused = [k for k, answer in enumerate(run.wrote) if answer == KEEPER]
-            others = [k for k in range(len(due)) if k not in refused]
-            return (run.status == 0 and len(run.wrote) == len(due) and self.is_kept_without(run, refused)
-                    and [run.wrote[k] for k in others] == self.undisturbed(others).wrote[:len(others)])
+            return run.status == 0 and self.is_due_but(run, lambda k, part: part == KEEPER)
         if call.on == "store":
             return run.was_silent() and run.tables == self.before()
         served = sum(1 for k in range(len(due)) if run.wrote[:k + 1] == due[:k + 1])
@@ -385,13 +359,6 @@ def each_failure(scene, several):
             yield run, is_right
 
 
-def requests_of(path):
-    """The requests of the first run of a session of examples."""
-    one = session.runs_of(path)[0]
-    ends = [end for _, end, _ in one.places]
-    return [one.octets[begin:end] for begin, end in zip([0] + ends, ends)]
-
-
 def made(requests):
     """The store that the requests make."""
     store = tempfile.mktemp()
@@ -403,16 +370,8 @@ def cut(octets, size):
     return [octets[at:at + size] for at in range(0, len(octets), size)]
 
 
-def two():
-    return requests_of("examples/replay/in-pieces.session")
-
-
-def network():
-    return requests_of("examples/report/network.session")
-
-
-def judged():
-    return cut(read("examples/judge/made-bulb.pcap"), 100)
+TWO, NETWORK = (requests_of(f"examples/{name}.session") for name in ("replay/in-pieces", "report/network"))
+JUDGED = cut(read("examples/judge/made-bulb.pcap"), 100)
 
 
 def log_in_run():
@@ -437,7 +396,7 @@ def files_imported():
 
 
 def requests_kept():
-    return Replay(["replay", "{store}"], two() + [f"GET /{table} HTTP/1.1\r\nMud-Moment: 6\r\n\r\n".encode() for table in ("locals", "classes")])
+    return Replay(["replay", "{store}"], TWO + [request("GET", "/" + table, moment=6) for table in ("locals", "classes")])
 
 
 SCENES = {
@@ -445,18 +404,18 @@ SCENES = {
     "hear_lldp": lambda: Scene(["hear", "lldp"], cut(read("examples/lldp/made-url-of-255.bin"), 100)),
     "check": lambda: Scene(["check"], cut(read("examples/usage-files/made-lightbulb.json"), 300)),
     "frames": lambda: Capture(["frames"], cut(read("examples/captures/vlan-trunk.pcap"), 777)),
-    "judge_in_memory": lambda: Capture(["judge", ":memory:"], judged()),
-    "judge": lambda: Capture(["judge", "{store}"], judged(), made(network())),
+    "judge_in_memory": lambda: Capture(["judge", ":memory:"], JUDGED),
+    "judge": lambda: Capture(["judge", "{store}"], JUDGED, made(NETWORK)),
     "drill": lambda: Scene(["drill", "5"]),
-    "report": lambda: Scene(["report", "{store}", "things"], copied=made(network())),
-    "replay_in_memory": lambda: Replay(["replay", ":memory:"], two()),
-    "replay_in_pieces": lambda: Replay(["replay", ":memory:"], two(), 50),
+    "report": lambda: Scene(["report", "{store}", "things"], copied=made(NETWORK)),
+    "replay_in_memory": lambda: Replay(["replay", ":memory:"], TWO),
+    "replay_in_pieces": lambda: Replay(["replay", ":memory:"], TWO, 50),
     "replay_tour": lambda: Replay(["replay", ":memory:"], requests_of("examples/replay/tour.session"), 1000),
     "replay_kept": requests_kept,
-    "replay_network": lambda: Replay(["replay", "{store}"], network(), 1000),
+    "replay_network": lambda: Replay(["replay", "{store}"], NETWORK, 1000),
     "log_in_run": log_in_run,
     "log_by_next": log_by_next,
-    "serve": lambda: Serve(["serve", "{store}"], two()),
+    "serve": lambda: Serve(["serve", "{store}"], TWO),
     "import": files_imported,
 }
 

@@ -3,11 +3,9 @@
 First with the answers that the formats give: each first part of a message, a frame, a usage file, two captures and a
 DNS answer, options and TLVs that go past the end, lists within one another, IPv6 extension headers, and what is longer
 than an input may be. (The first parts of requests, and of bodies, are among the sessions.) Then each file of examples
-through each reader, where the status has to be 0 or 3 and each line one that the command may write.
+through each reader, where the status has to be 0 or 3 and each line one that the command may write (checks/written.py).
 """
-import re
-
-from checks import session, texts
+from checks import session, texts, written
 from checks.case import ProgramCase, cases_of
 from checks.program import capture, copy_store, packet_ends, read, request, run
 
@@ -79,8 +77,7 @@ class Files(Hostile):
 
     def answered(self, what, body, status, answer):
         """The body is sent to /classes, and this is the answer's body."""
-        head = f"HTTP/1.1 {status} {session.PHRASES[status]}\r\nContent-Type: application/json\r\nContent-Length: {len(answer)}\r\n\r\n"
-        self.said(what, 0, head + answer, request("POST", "/classes", body, 5), "replay", ":memory:")
+        self.said(what, 0, session.answer(status, answer), request("POST", "/classes", body, 5), "replay", ":memory:")
 
     def test_bodies(self):
         for count in (127, 128, 200):
@@ -163,65 +160,7 @@ class Captures(Hostile):
             self.said(f"the first {size} octets of a DNS answer", 0, lines, octets, "snoop", store)
 
 
-# ---- What a line may be where the status is 0, and what the last one is where it is 3
-
-OCTET = "[0-9]{1,3}"
-V4 = rf"{OCTET}\.{OCTET}\.{OCTET}\.{OCTET}"
-HARDWARE = "([0-9a-f]{2}:){5}[0-9a-f]{2}"
-ADDRESS = f"({V4}|[0-9a-f:]+)"
-URL_FAULT = "(Empty|Long|Octet [0-9]+|Scheme|Fragment|UserInfo|Host|Port|Path [0-9]+)"
-PART = "(ethernet|tag|ip|extension|transport)"
-RULING = "(accept:[0-9]+|drop:[0-9]+|default-dns|default-ntp|drop:no-file|drop:no-match|drop:held)"
-# of a classic capture, and, with an offset each, of one in pcapng
-CAPTURE = "fault ((Magic|Version|LinkType|Many)( [0-9]+)?|(Cut|Long|Length|Interface|Resolution|Late|PacketForm) [0-9]+)"
-RULE = ("(TooLong|Json|Missing|WrongKind|Version|Update|Validity|NoSuchAcl|AclType|UnknownMatch|TwoLayers|PortRange|NameSide|DirectionNotTcp"
-        "|Action|EntriesFull|NameText|RepeatedName|Family|PrefixText|Range|DirectionText|Operator|FlagText)")
-HEARD = (f"url {HARDWARE} https://[!-~]+|lease {HARDWARE} {V4} [0-9]+|nothing", f"fault (Cut [0-9]+|Hardware|Cookie|Repeat|Order|Long|Url {URL_FAULT})")
-JUDGED = rf"[0-9]+ [0-9]+ (pass (unmanaged|link)|drop unreadable {PART}|(pass|drop)( from={RULING})?( to={RULING})?)"
-FORMS = {
-    "dhcp": HEARD,
-    "lldp": HEARD,
-    "check": ("file https://[!-~]+|update -?[0-9]+|hours [0-9]{1,3}|(from|to) [0-9]{1,3} v[46] (member|wide) (accept|drop)",
-              f"fault ({RULE}( /[!-~]*)?|Url /ietf-mud:mud/mud-url {URL_FAULT})"),
-    "frames": (f"[0-9]+ [0-9]+ (link|unreadable {PART}|packet {ADDRESS} {ADDRESS} {OCTET}( (tcp [0-9]+ [0-9]+ {OCTET}|udp [0-9]+ [0-9]+"
-               f"|icmp {OCTET} {OCTET}))?)", CAPTURE),
-    "judge": (JUDGED, CAPTURE),
-    "snoop": (JUDGED + f"|name [0-9a-z._-]+ {ADDRESS} [0-9]+ (new|renewed|same|refused [0-9]+ [A-Za-z]+)"
-              "|dns fault (NotAnswer|(Cut|Label|Pointer|NameLong) [0-9]+)", CAPTURE),
-    "tally": (f"hour [0-9]+|count {HARDWARE} (from|to) {RULING} [0-9]+|denied {HARDWARE} (from|to) ({ADDRESS} [0-9]{{1,3}} ([0-9]+|-)|others) [0-9]+"
-              "|packets [0-9]+ unmanaged [0-9]+ link [0-9]+ unreadable [0-9]+ pass [0-9]+ drop [0-9]+ both [0-9]+", CAPTURE),
-}
-HEAD = re.compile(rb"HTTP/1\.1 (200 OK|400 Bad Request|404 Not Found|405 Method Not Allowed|409 Conflict|411 Length Required|413 Payload Too Large"
-                  rb"|422 Unprocessable Entity|501 Not Implemented)\r\nContent-Type: application/json\r\n(Allow: [A-Z, ]+\r\n)?"
-                  rb"Content-Length: ([0-9]+)\r\n(Connection: close\r\n)?\r\n")
-
-
-def has_form(kind, ended):
-    """The lines are those that the forms allow."""
-    plain, fault = FORMS[kind]
-    text = ended.out.decode("latin-1")
-    lines = text.split("\n")
-    if ended.status not in (0, 3) or lines.pop() != "" or (kind in ("dhcp", "lldp") and len(lines) != 1):
-        return False
-    if ended.status == 3 and not (lines and re.fullmatch(fault, lines.pop())):
-        return False
-    return all(re.fullmatch(plain, line) for line in lines)
-
-
-def are_answers(ended):
-    """Whole answers of HTTP; where the status is 3, the last one says that the connection ends."""
-    rest, closes = ended.out, False
-    while rest:
-        head = HEAD.match(rest)
-        if not head:
-            return False
-        body, rest, closes = rest[head.end():head.end() + int(head[3])], rest[head.end() + int(head[3]):], bool(head[4])
-        if len(body) != int(head[3]) or not re.fullmatch(rb'\{"[a-z-]+":.*\}', body, re.S):
-            return False
-    return closes if ended.status == 3 else ended.status == 0
-
-
-@cases_of(["dhcp", "lldp", "check", "frames", "judge", "tally", "snoop", "replay"])
+@cases_of(written.READERS)
 class EachFile(Captures):
     """Each file of examples through each reader."""
 
@@ -234,5 +173,5 @@ class EachFile(Captures):
             words.append(":memory:")
         for path in texts.files("examples/**"):
             ended = run(*words, input=path)
-            good = are_answers(ended) if name == "replay" else has_form(name, ended)
-            self.holds(path, good, f"status {ended.status}, and {ended.out[:300]!r}")
+            with self.subTest(path):
+                written.look(name, ended.status, ended.out)

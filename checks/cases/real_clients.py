@@ -87,8 +87,7 @@ class Clients(ProgramCase):
                 client.setsockopt(socket.SOL_SOCKET, socket.SO_LINGER, struct.pack("ii", 1, 0))
                 client.sendall(request("GET", "/locals", b"", None) + classes)
             got = sent(server.port, b"GET /locals HTTP/1.1\r\nConnection: close\r\n\r\n", ends=False)
-            wanted = (b"HTTP/1.1 200 OK\r\nContent-Type: application/json\r\nContent-Length: 27\r\nConnection: close\r\n\r\n"
-                      b'{"locals":["192.0.2.0/24"]}')
+            wanted = session.answer(200, '{"locals":["192.0.2.0/24"]}', closes=True)
             self.note("the client behind three that went away", wanted, got)
             server.ended(self, "clients that go away")
 

@@ -10,8 +10,7 @@ NAMES = [os.path.basename(path).removesuffix(".session") for path in texts.files
 
 def fault(rule):
     """The answer to octets that are no request."""
-    return (f"HTTP/1.1 400 Bad Request\r\nContent-Type: application/json\r\nContent-Length: {len(rule) + 11}\r\n"
-            f'Connection: close\r\n\r\n{{"rule":"{rule}"}}').encode()
+    return session.answer(400, f'{{"rule":"{rule}"}}', closes=True)
 
 
 def of_first_part(run, size):
@@ -31,7 +30,7 @@ class Sessions(ProgramCase):
         for number, run in enumerate(session.runs_of(f"examples/replay/{name}.session"), 1):
             self.ends(f"run {number}", run.status, run.wanted, program.run("replay", ":memory:", input=run.octets))
             for place in range(1, len(run.octets)) if run.in_pieces else ():
-                ended = program.run_in_pieces((run.octets[:place], run.octets[place:]), "replay", ":memory:")
+                ended = program.run_by_reads((run.octets[:place], run.octets[place:]), "replay", ":memory:")
                 self.ends(f"run {number}, cut behind octet {place}", run.status, run.wanted, ended)
             for size in range(len(run.octets)) if run.in_parts else ():
                 ended = program.run("replay", ":memory:", input=run.octets[:size])

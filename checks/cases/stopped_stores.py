@@ -19,14 +19,14 @@ import subprocess
 import threading
 import time
 
-from checks import program
+from checks import program, session
 from checks.case import ProgramCase, needs
 from checks.program import Server, answers, clear_store, copy_store, read, request, run
 
 URL = "https://lighting.example.com/lightbulb2000"
 MAC = "02:00:00:00:00:01"
 BULB = "examples/usage-files/made-lightbulb.json"
-BOUND = b'HTTP/1.1 200 OK\r\nContent-Type: application/json\r\nContent-Length: 18\r\n\r\n{"result":"bound"}'
+BOUND = session.answer(200, '{"result":"bound"}')
 GET = request("GET", "/things", moment=1)
 MOST = 16384
 ALL = [f"class uri urn:example:{number // 64:03d} 192.0.2.{number % 64}\n" for number in range(MOST)]
@@ -165,8 +165,7 @@ class Killed(Stores):
     def behind(self, what, ended, more):
         """The answers that came are the first ones; opened again, the store lists what it does after as many requests,
         or, where more is 1, after one more. How many were answered."""
-        wanted = "".join(f"HTTP/1.1 200 OK\r\nContent-Type: application/json\r\nContent-Length: {len(body)}\r\n\r\n{body}"
-                         for _, _, body in six()).encode()
+        wanted = b"".join(session.answer(200, body) for _, _, body in six())
         self.note(what + ", the answers", wanted[:len(ended.out)], ended.out)
         answered = ended.out.count(b"HTTP/1.1 200 OK")
         reports = [run("report", self.store, kind) for kind in ("things", "files", "classes", "locals", "names")]

@@ -15,8 +15,13 @@ NAME = re.compile(r"[A-Za-z0-9_]+")
 
 def names_that_went():
     """For each crate, or '*', and name that went the one that stands in its place."""
-    rows = [line.split() for line in texts.lines("checks/words.list") if line and not line.startswith("#")]
-    return {(crate, row[0]): row[1] for row in rows for crate in (row[2].split(",") if len(row) == 3 else ["*"])}
+    found = {}
+    for line in texts.lines("checks/words.list"):
+        crates, _, pairs = line.rpartition(": ")
+        for pair in pairs.split() if not line.startswith("#") else ():
+            went, now = pair.split("=")
+            found.update({(crate, went): now for crate in crates.split() or ["*"]})
+    return found
 
 
 def names_on(page):

@@ -1,5 +1,5 @@
 -- What a crash leaves, and what is left behind several calls.
-use Rattle.std.proofs.Common.{◌≡◌, inl, inr, true, List, [], IsTrue, refl, sym, ap, subst, ◌∙◌, arith}
+use Rattle.std.proofs.Common.{◌≡◌, inl, inr, true, List, [], sym, subst, arith}
 use Rattle.sqlite_trees.specs.declared.store.Store.{Ghosts}
 use Rattle.sqlite_trees.specs.Tree.{Trees}
 use Rattle.sqlite.specs.State.{State, HasCleanDisk, Survives}

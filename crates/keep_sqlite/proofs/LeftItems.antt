@@ -49,7 +49,7 @@ module _ {S : Type 0} (g : Ghosts S) (old new : KeeperView S) where
     | inr made ↦ inr (
       made.0,
       sym it.items ∙ items_left (put_all (items_of (database g old)) batch) it.db it.sound made.1
-      ∙ ap (λ items. put_all items batch) (sym (held_is (database g old) (holds_opened old.has_opened (database g old) opened made.0.1))),
+          ∙ ap (λ items. put_all items batch) (sym (held_is (database g old) (holds_opened old.has_opened (database g old) opened made.0.1))),
     )
   ]
 

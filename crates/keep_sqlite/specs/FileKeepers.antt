@@ -63,11 +63,6 @@ module _ {S : Type 0} (g : Ghosts S) where
   OpenedIsClean (Ok keeper) = HasCleanDisk (state g keeper.connection)
   OpenedIsClean (Err refusal) = ⊥
 
-  -- and the connection is open too,
-  abbrev pub OpenedIsUp : Result (KeeperView S) Refusal → Type 0
-  OpenedIsUp (Ok keeper) = IsUp g keeper.connection
-  OpenedIsUp (Err refusal) = ⊥
-
   -- and sees this database.
   abbrev pub OpenedSees : Result (KeeperView S) Refusal → Database → Type 0
   OpenedSees (Ok keeper) db = database g keeper ≡ db

@@ -1,14 +1,14 @@
 -- A run over a file, whatever it held.
-use Rattle.std.specs.Prelude.{◌≡◌, false}
+use Rattle.std.specs.Prelude.{◌≡◌}
+use Rattle.sqlite_disk.specs.declared.Disk.{Ghosts}
+use Rattle.sqlite.specs.declared.FileStore.{FileStore}
 use Rattle.sqlite.specs.Recovery.{Image}
-use Rattle.mud_world.specs.Kept.{faults_of, kept_items, Tells}
-use Rattle.mud_world.specs.declared.keeper.Keeper.{Ghosts}
-use Rattle.keep_sqlite.specs.Reopened.{ReadsFile}
+use Rattle.keep_sqlite.specs.declared.file_keeper.FileKeeper.{FileKeeper}
+use Rattle.keep_sqlite.specs.FileKeepers.{IsOpenedOver}
 
--- The run began with a keeper that had neither read nor failed and whose items, where it tells them, are those that the file held; and did this.
-pub record BeginsWithFile {K : Type 0} (members : Ghosts K) (image : Image) (Does : K → Type 0) : Type 0 where
-  pub first : K
-  pub unread : members.opened first ≡ false
-  pub fresh : faults_of members first ≡ 0
-  pub held : Tells members first → ReadsFile image (kept_items members first)
+-- The run began with a keeper whose file was opened just then, and that had never failed; and did this.
+pub record BeginsWithFile {D : Type 0} {g : Ghosts D} (image : Image) (Does : FileKeeper (FileStore D g) → Type 0) : Type 0 where
+  pub first : FileKeeper (FileStore D g)
+  pub opened : IsOpenedOver image first.keeper
+  pub fresh : first.faults ≡ 0
   pub does : Does first

@@ -1,1 +1,2 @@
 pub mod StoreKeepers
+pub mod TwoRuns

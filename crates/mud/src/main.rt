@@ -2,6 +2,7 @@
 //! over them.
 #![tactic(auto)]
 
+mod laws;
 mod store;
 mod store_runs;
 
@@ -11,10 +12,9 @@ ghost use Rattle.run_words.specs.Words.{command_in, words_of};
 
 use crate::store_runs::run_store;
 use io_system::{Call, Failure, RealClock, RealDoor, RealSpool};
-use item_codec::kinds::CLASS_KIND;
 use mud_cli::Status;
-use mud_world::Keeper;
-use run_words::{Command, USAGE, command_of, folder_word, store_word};
+use run_words::{USAGE, command_of, folder_word, store_word};
+use sqlite::Unknown;
 use std::alloc::{AllocError, Global};
 use std::io::ErrorKind;
 use std::process::ExitCode;
@@ -23,9 +23,6 @@ use std::{env, fs, io};
 
 /// The word of a store that is kept in memory alone, and is empty at the start of each run.
 const IN_MEMORY: &str = ":memory:";
-
-/// The key of the item that is the class of DNS servers (RFC 8520, section 4.6).
-const DNS_CLASS_KEY: &[u8] = b"\x01urn:ietf:params:mud:dns";
 
 fn main(rt: HostRuntime) -> ExitCode {
     ExitCode::from(run(rt))
@@ -108,37 +105,19 @@ fn run_over(rt: HostRuntime, words: &[String], path: Option<String>, folder: Str
     let mut door = RealDoor::new(rt.reader(), io::writer(&rt), rt);
     let mut spool = RealSpool::new(rt, folder);
     let mut clock = RealClock::new(rt);
-    let (status, mut keeper) = run_store(
-        alloc, &rt, words, path, &mut door, &mut spool, &mut clock,
+    let (status, learns_nothing) = run_store(
+        alloc, &rt, words, path, Unknown, &mut door, &mut spool, &mut clock,
     );
     if status == Status::DoorFailed.number() {
         tell(rt, door.failure);
         tell(rt, spool.failure);
     }
-    if is_snoop_to_the_end(alloc, words, status) && binds_no_dns_server(alloc, &mut keeper) {
+    if learns_nothing {
         let _printed = eprint!(rt;
             "mud: no name could be learnt: no address is bound to urn:ietf:params:mud:dns\n"
         );
     }
     status
-}
-
-/// Whether these words are those of `snoop`, and it ended with its capture, whole or broken.
-fn is_snoop_to_the_end(alloc: Global, words: &[String], status: u8) -> bool {
-    if status != Status::Done.number() && status != Status::Refused.number() {
-        return false;
-    }
-    matches!(command_of(alloc, words), Some(Command::Snoop))
-}
-
-/// Whether the items that a keeper keeps bind no address to the class of DNS servers: a class of no
-/// address is no item. They are read once more for it; where that fails, this isn't known, and false.
-fn binds_no_dns_server<K: Keeper>(alloc: Global, keeper: &mut K) -> bool {
-    let Ok(items) = keeper.open(alloc) else {
-        return false;
-    };
-    !items.as_slice().iter().any(|item| item.kind == CLASS_KIND
-        && item.key.octets() == DNS_CLASS_KEY)
 }
 
 /// Tells standard error which call failed and why, if one did; whether that succeeds doesn't change the

@@ -3,6 +3,7 @@ pub mod Check
 pub mod Frames
 pub mod Hear
 pub mod Import
+pub mod NextRun
 pub mod Promises
 pub mod Report
 pub mod Export

@@ -1,4 +1,4 @@
-use Rattle.std.proofs.Common.{Ok, IfOk, false, ◌≡◌, ap, subst, sym, ◌∙◌}
+use Rattle.std.proofs.Common.{◌≡◌, false, IfOk, ap, subst, ◌∙◌}
 use Rattle.keep_sqlite.proofs.file_keeper.adopted.Goals as goal
 
 pub returns-in-Ok-clause-rests : goal.returns-in-Ok-clause-rests

@@ -10,7 +10,7 @@ pub returns-in-Ok-clause-crash : goal.returns-in-Ok-clause-crash
 returns-in-Ok-clause-crash g c =
     let opened : IsTrue c.in-Ok.keeper.has_opened = subst (λ k. IsTrue (is_read k)) c.in-Ok.is c.requires.opened in
     subst (λ k. (list : List Item) → OpenedMayLeave g.S.Store (Ok c.keep.new.self) list → OpenedMayLeave g.S.Store k list
-        ⊎ (OpenedTells g.S.Store k × (list ≡ put_all (opened_items g.S.Store k) c.args.batch.now))) (sym c.in-Ok.is)
+    ⊎ (OpenedTells g.S.Store k × (list ≡ put_all (opened_items g.S.Store k) c.args.batch.now))) (sym c.in-Ok.is)
     (put_left g.S.Store c.in-Ok.keeper c.keep.new.self c.args.batch.now opened c.keep.ensures.crash)
 
 pub returns-in-Ok-clause-rests : goal.returns-in-Ok-clause-rests

@@ -8,7 +8,7 @@ use Rattle.keep_sqlite.proofs.file_keeper.read_opened.Goals as goal
 pub returns-in-Ok-clause-crash : goal.returns-in-Ok-clause-crash
 returns-in-Ok-clause-crash g c =
     subst (λ k. OpenedTells g.S.Store k → (list : List Item) → OpenedMayLeave g.S.Store (Ok c.read.new.self) list
-        → OpenedMayLeave g.S.Store k list ⊎ (list ≡ opened_items g.S.Store k)) (sym c.in-Ok.is)
+    → OpenedMayLeave g.S.Store k list ⊎ (list ≡ opened_items g.S.Store k)) (sym c.in-Ok.is)
     (λ tells. read_left g.S.Store c.in-Ok.keeper c.read.new.self (c.read.ensures.crash tells.0))
 
 pub returns-in-Ok-clause-rests : goal.returns-in-Ok-clause-rests

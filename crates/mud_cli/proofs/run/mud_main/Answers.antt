@@ -1,6 +1,7 @@
 use Rattle.std.proofs.Common.{ℕ, sym, ◌∙◌, subst}
 use Rattle.run_words.specs.declared.command.Command.{Command}
 use Rattle.mud_cli.specs.Runs.{Does, LeavesAlone, world}
+use Rattle.mud_cli.proofs.NextRuns.{runs_leave}
 use Rattle.mud_cli.proofs.Promised.{promised}
 use Rattle.mud_cli.proofs.run.mud_main.Goals as goal
 
@@ -19,3 +20,9 @@ returns-clause-alone g c = λ command named.
     let alone = λ (status : ℕ) (named : Command). LeavesAlone c.args.keeper c.run_command-status.result.1 old new status named in
     promised (alone c.number-2.result) c.in-Some.command command (sym c.in-Some.is ∙ c.command_of.ensures ∙ named)
     (subst (λ (status : ℕ). alone status c.in-Some.command) (sym c.number-2.ensures) c.run_command-status.ensures.alone)
+
+pub returns-clause-left : goal.returns-clause-left
+returns-clause-left g c =
+    let run = c.run_command-status in
+    runs_leave g.K.Keeper c.args.keeper run.result.1 _ g.D.Door g.P.Spool g.C.Clock (world c.args.door.now c.args.spool.now c.args.clock.now)
+    (world run.new.door run.new.spool run.new.clock) c.in-Some.command run.ensures.does run.ensures.alone

@@ -199,22 +199,56 @@ class Captures(ProgramCase):
         """Captures that teach names to a store which a session of the console has made."""
         for name, status in table("examples/snoop/expected.tsv"):
             store, path = self.replayed("examples/snoop/network.session", name), f"examples/snoop/{name}"
-            self.ends(name, int(status), read(path + ".lines"), run("snoop", store, input=path + ".pcap"))
-            self.ends(f"the names of {name}", 0, read(path + ".names"), run("report", store, "names"))
+            texts_of = path.rpartition(".")[0]
+            self.ends(name, int(status), read(texts_of + ".lines"), run("snoop", store, input=path))
+            self.ends(f"the names of {name}", 0, read(texts_of + ".names"), run("report", store, "names"))
+
+    def test_export(self):
+        """The lists of a Thing with addresses of both versions of IP, whose file has lists for IPv6 alone."""
+        store = self.replayed("examples/export/network.session", "network")
+        lines = read("examples/export/hub.lines")
+        self.ends("export", 0, lines, run("export", store, "02:00:00:00:00:06"))
 
     def test_drill(self):
         for path in texts.files("examples/drill/*.lines"):
             self.ends(path, 0, read(path), run("drill", os.path.basename(path).removesuffix(".lines")))
 
 
+@needs("sqlite3")
 class Judged(ProgramCase):
     """By a store with a Thing, which sqlite3 makes, in the earlier form of its record."""
 
-    @needs("sqlite3")
-    def test_judge(self):
+    def bulb(self):
+        """The store."""
         store = self.path("bulb")
         with open("examples/judge/store.sql", "rb") as text:
             subprocess.run(["sqlite3", store], stdin=text, check=True)
+        return store
+
+    def test_connections(self):
+        """A forwarded reset ends a connection; and the name of the server has ended at 1060, though no connection has."""
+        store = self.bulb()
+        for what, packets, last in (
+                ("a reset", ((1001, "bulb-opens"), (1001, "bulb-resets"), (1001, "cloud-answers")), "3 1001 drop to=drop:no-match\n"),
+                ("a name that ended", ((1001, "bulb-opens"), (8441, "cloud-answers")), "2 8441 drop to=drop:no-match\n")):
+            octets = program.capture([(second, session.frames()[name]) for second, name in packets])
+            lines = "".join(f"{number} 1001 pass from=accept:1\n" for number in range(1, len(packets)))
+            self.ends(what, 0, lines + last, run("judge", store, input=octets))
+
+    def test_many_peers(self):
+        """A Thing is denied 257 peers, and the last one of them again in the next hour: what it is denied beyond 256 of
+        them is counted in one line."""
+        opens = session.frames()["bulb-opens"]
+        packets = [(1001, opens[:30] + bytes([10, 0, number >> 8, number & 255]) + opens[34:]) for number in range(1, 258)]
+        packets.append((3600, packets[-1][1]))
+        head, count = "02:00:00:00:00:01 from", "count 02:00:00:00:00:01 from drop:no-match"
+        denied = "".join(f"denied {head} 10.0.{number >> 8}.{number & 255} 6 443 1\n" for number in range(1, 257))
+        lines = (f"hour 0\n{count} 257\nhour 1\n{count} 1\n{denied}denied {head} others 2\n"
+                 "packets 258 unmanaged 0 link 0 unreadable 0 pass 0 drop 258 both 0\n")
+        self.ends("tally", 0, lines, run("tally", self.bulb(), input=program.capture(packets)))
+
+    def test_judge(self):
+        store = self.bulb()
         capture = "examples/judge/made-bulb.pcap"
         self.ends("judge", 3, read("examples/judge/made-bulb.lines"), run("judge", store, input=capture))
         # the fourth packet is a later fragment, which has no port
@@ -223,6 +257,7 @@ class Judged(ProgramCase):
             path = f"examples/pcapng/{name}"
             lines = re.sub("packet .*", "pass from=accept:1", read(path + ".lines").decode())
             self.ends(f"judge of {name}", 3 if "fault" in lines else 0, lines, run("judge", store, input=path + ".pcapng"))
+        self.ends("tally in pcapng", 0, read("examples/tally/one-packet.lines"), run("tally", store, input="examples/pcapng/one-packet.pcapng"))
         self.ends("the report of it", 0, read("examples/report/earlier-form.lines"), run("report", store, "things"))
         shown = "SELECT hex(substr(body, 1, 5)), hex(substr(body, -11)) FROM item WHERE kind = 1"
         ended = run(store, shown, program="sqlite3")

@@ -47,6 +47,18 @@ const NINE_HEADERS: &[u8] =
     \x3c\x00\x01\x04\x00\x00\x00\x00\
     \x3b\x00\x01\x04\x00\x00\x00\x00";
 
+/// A DHCP request (RFC 2131) of a client that announces its URL, with a space and a letter behind it.
+const MESSAGE: &[u8] = b"\x01\x01\x06\0\0\0\0\x01\
+    \0\0\0\0\0\0\0\0\0\0\0\0\0\0\0\0\0\0\0\0\
+    \x02\0\0\0\0\x01\0\0\0\0\0\0\0\0\0\0\
+    \0\0\0\0\0\0\0\0\0\0\0\0\0\0\0\0\0\0\0\0\0\0\0\0\0\0\0\0\0\0\0\0\
+    \0\0\0\0\0\0\0\0\0\0\0\0\0\0\0\0\0\0\0\0\0\0\0\0\0\0\0\0\0\0\0\0\
+    \0\0\0\0\0\0\0\0\0\0\0\0\0\0\0\0\0\0\0\0\0\0\0\0\0\0\0\0\0\0\0\0\
+    \0\0\0\0\0\0\0\0\0\0\0\0\0\0\0\0\0\0\0\0\0\0\0\0\0\0\0\0\0\0\0\0\
+    \0\0\0\0\0\0\0\0\0\0\0\0\0\0\0\0\0\0\0\0\0\0\0\0\0\0\0\0\0\0\0\0\
+    \0\0\0\0\0\0\0\0\0\0\0\0\0\0\0\0\0\0\0\0\0\0\0\0\0\0\0\0\0\0\0\0\
+    \x63\x82\x53\x63\x35\x01\x03\xa1\x2chttps://lighting.example.com/lightbulb2000 x\xff";
+
 /// 200 lists, each in the one before.
 const NESTED: &[u8] = b"[[[[[[[[[[[[[[[[[[[[[[[[[[[[[[[[[[[[[[[[[[[[[[[[[[\
     [[[[[[[[[[[[[[[[[[[[[[[[[[[[[[[[[[[[[[[[[[[[[[[[[[\
@@ -60,7 +72,7 @@ const NESTED: &[u8] = b"[[[[[[[[[[[[[[[[[[[[[[[[[[[[[[[[[[[[[[[[[[[[[[[[[[\
 /// The line of an item that is no record.
 const BAD_ITEM: &[u8] = b"fault item 1 020000000001\n";
 
-static RUNS: [(&[Kept<'static>], Run<'static>); 15] = [
+static RUNS: [(&[Kept<'static>], Run<'static>); 16] = [
     // A Thing of the first version is put anew in the second as the store is opened.
     (
         &[FIRST],
@@ -224,6 +236,18 @@ static RUNS: [(&[Kept<'static>], Run<'static>); 15] = [
             failing: (Call::Read, 1),
             status: 4,
             written: &[&[]],
+            changed: &[],
+        },
+    ),
+    (
+        &[FIRST],
+        Run {
+            words: &["hear", "dhcp"],
+            connections: &[&[MESSAGE]],
+            second: 2000,
+            failing: NONE,
+            status: 0,
+            written: &[&[b"url 02:00:00:00:00:01 https://lighting.example.com/lightbulb2000\n"]],
             changed: &[],
         },
     ),

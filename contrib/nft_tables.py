@@ -19,8 +19,11 @@ UPKEEP = (
 TAGGED = "ether type { 8021q, 8021ad } counter drop"
 # the longest time of an element, in seconds: nft counts milliseconds in 32 bits
 LONGEST = 4_000_000
-# what asks the kernel who began a connection
-ASKS = "ct direction "
+# A packet that opens begins its connection, as the manager has it: SYN without ACK and RST. Any other one belongs to a
+# connection of which a packet passed: what the kernel takes up in the midst isn't confirmed before.
+OPENS = "tcp flags & (syn | rst | ack) == syn"
+# the tests of each rule of an entry that asks whether a packet's sender began the connection, or its receiver
+BEGUN = {"by sender": (OPENS, "ct status confirmed ct direction original"), "by receiver": (OPENS.replace("==", "!=") + " ct direction reply",)}
 # lists by which all is dropped
 NOTHING = [{"name": f"{side}-v{version}", "aces": {"ace": []}} for side in ("from", "to") for version in "46"]
 LEASED = ("manufacturer", "same-manufacturer", "model")
@@ -54,7 +57,8 @@ def header_tests(header, version):
 
 
 def transport_tests(matches, version, side):
-    """The tests of the transport header, and the protocol where there is no such header."""
+    """The tests of the transport header, or the protocol where there is no such header; in the end a word of BEGUN where
+    it is asked who began."""
     for protocol in ("tcp", "udp", "icmp"):
         if protocol not in matches:
             continue
@@ -71,26 +75,37 @@ def transport_tests(matches, version, side):
             rules.append("tcp flags == 0x%02x" % sum(FLAGS[word] for word in tests["flags"].split()))
         if "ietf-mud:direction-initiated" in tests:
             own = (tests["ietf-mud:direction-initiated"] == "from-device") == (side == "from")
-            rules.append(ASKS + ("original" if own else "reply"))
+            rules.append("by sender" if own else "by receiver")
         return rules
     header = matches.get("ipv" + version, {})
     return ["meta l4proto %d" % header["protocol"]] if "protocol" in header else []
 
 
+def matches_of(octets):
+    """The matches of a usage file's entries, each behind its side, in the order of their numbers."""
+    file = json.loads(octets)
+    lists = {acl["name"]: acl for acl in file.get(MODULE, {}).get("acl", [])}
+    for side in ("from", "to"):
+        policy = file["ietf-mud:mud"].get(side + "-device-policy", {}).get("access-lists", {}).get("access-list", [])
+        for named in policy:
+            for item in lists[named["name"]].get("aces", {}).get("ace", []):
+                yield side, item.get("matches", {})
+
+
+def asks(octets):
+    """Whether an entry of a usage file asks who began a connection."""
+    return any("ietf-mud:direction-initiated" in matches.get("tcp", {}) for _, matches in matches_of(octets))
+
+
 def entries_of(octets):
     """The entries of a usage file for each side, in the order of their numbers: the name that each asks for, or None,
     and whether it asks for leases."""
-    file = json.loads(octets)
-    lists = {acl["name"]: acl for acl in file.get(MODULE, {}).get("acl", [])}
     found = {"from": [], "to": []}
-    for side, entries in found.items():
-        policy = file["ietf-mud:mud"].get(side + "-device-policy", {}).get("access-lists", {}).get("access-list", [])
-        for item in (item for named in policy for item in lists[named["name"]].get("aces", {}).get("ace", [])):
-            matches = item.get("matches", {})
-            headers = [matches.get("ipv4", {}), matches.get("ipv6", {})]
-            names = [header[member] for header in headers for member in header if member.endswith("-dnsname")]
-            name = names[0].lower().removesuffix(".") if names else None
-            entries.append((name, any(member in matches.get("ietf-mud:mud", {}) for member in LEASED)))
+    for side, matches in matches_of(octets):
+        headers = [matches.get("ipv4", {}), matches.get("ipv6", {})]
+        names = [header[member] for header in headers for member in header if member.endswith("-dnsname")]
+        name = names[0].lower().removesuffix(".") if names else None
+        found[side].append((name, any(member in matches.get("ietf-mud:mud", {}) for member in LEASED)))
     return found
 
 
@@ -123,23 +138,19 @@ class Table:
         self.mac, self.lists, self.expiries = mac, lists, expiries
         self.gateway, self.connections = gateway, connections
 
-    def asks(self):
-        """Whether a rule asks who began a connection."""
-        return any("ietf-mud:direction-initiated" in item["matches"].get("tcp", {}) for acl in self.lists for item in acl["aces"]["ace"])
-
-    def rule_of(self, item, version, side, peers=None, name=None):
-        """The rule of an item, or of those of an entry whose peers are a set; None where it is left out."""
+    def rules_of(self, item, version, side, peers=None, name=None):
+        """The rules of an item, or of those of an entry whose peers are a set."""
         matches = item["matches"]
         tests = header_tests(matches.get("ipv" + version, {}), version) + transport_tests(matches, version, side)
         if peers:
             field = "%s %s " % ("ip" if version == "4" else "ip6", "daddr" if side == "from" else "saddr")
             tests = [field + "@" + peers if test.startswith(field) else test for test in tests]
         accepts = item["actions"]["forwarding"] == "accept"
-        if not self.connections and any(test.startswith(ASKS) for test in tests):
-            if accepts:
-                return None
-            tests = [test for test in tests if not test.startswith(ASKS)]
-        return " ".join(tests + ["counter", "accept" if accepts else "drop", 'comment "%s"' % (name or item["name"])])
+        ways = BEGUN[tests.pop()] if tests and tests[-1] in BEGUN else ("",)
+        if ways[0] and not self.connections:
+            ways = () if accepts else ("",)
+        action = ["counter", "accept" if accepts else "drop", 'comment "%s"' % (name or item["name"])]
+        return [" ".join([*tests, *filter(None, [way]), *action]) for way in ways]
 
     def parts_of(self, acl, now):
         """The sets and the rules of a list. The items of an entry whose addresses end are one rule over a set, in
@@ -150,19 +161,19 @@ class Table:
         for item in acl["aces"]["ace"]:
             rule = item["name"].rpartition("-")[0]
             if not self.expiries or not self.expiries.is_timed(side, rule):
-                rules.append(self.rule_of(item, version, side))
+                rules += self.rules_of(item, version, side)
                 continue
             peers = "%s_%s_v%s" % (rule, side, version)
             if peers not in sets:
                 sets[peers] = []
-                rules.append(self.rule_of(item, version, side, peers, rule))
+                rules += self.rules_of(item, version, side, peers, rule)
             address = item["matches"]["ipv" + version][member].partition("/")[0]
             end = self.expiries.of(side, rule, str(ipaddress.ip_address(address)))
             if end is None:
                 sets[peers].append(address)
             elif end - now > 1:
                 sets[peers].append("%s timeout %dms" % (address, 1000 * min(end - now - 1, LONGEST)))
-        return sets, [rule for rule in rules if rule]
+        return sets, rules
 
     def text(self, now=0):
         """The table's lines. What stands there is replaced at once."""

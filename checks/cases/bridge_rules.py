@@ -315,20 +315,41 @@ class Bridge(ProgramCase):
         self.holds("no console, words", "can't be reached: nobody listens there" in said, said)
         self.holds("no console, the rules stay", nft_tables.name_of(THING) in self.rules())
 
+    def connections(self):
+        """Packets of connections in the order of their moments: each arrives exactly where its verdict is 'pass'. What
+        passes is what the manager and the kernel see."""
+        opens, accepts, acknowledges = 2, 18, 16
+        cloud, far = (50000, 443), ADDRESS[CLOUD]
+        rows = [("an answer to nothing", CLOUD, THING, (443, 50001), accepts), ("a packet of the Thing's in the midst of nothing", THING, CLOUD, (50001, 443), acknowledges),
+                ("one of the server's in the midst of nothing", CLOUD, THING, (443, 50001), acknowledges), ("what the server begins", CLOUD, THING, (443, 50002), opens),
+                ("an answer to what was dropped", THING, CLOUD, (50002, 443), accepts), ("what the Thing begins", THING, CLOUD, cloud, opens),
+                ("once more", THING, CLOUD, cloud, opens), ("its answer", CLOUD, THING, cloud[::-1], accepts), ("what follows", THING, CLOUD, cloud, acknowledges),
+                ("what follows the other way", CLOUD, THING, cloud[::-1], acknowledges), ("a beginning within it by the server", CLOUD, THING, cloud[::-1], opens),
+                ("another port", THING, CLOUD, (50000, 8080), opens), ("its answer", CLOUD, THING, (8080, 50000), accepts),
+                ("a port that is dropped, whoever began", THING, CLOUD, (50000, 44), opens), ("a port that nobody is asked of", CLOUD, THING, (80, 50003), acknowledges)]
+        self.network.learn()
+        for name, source, target, ports, flags in rows:
+            octets = tcp(source, target, ports, flags)
+            verdict = self.post("/packets", octets)["verdict"]
+            self.note(f"{name}: {verdict}", verdict.startswith("pass"), self.network.arrives(octets))
+        # what goes by the gateway as a router: the same address, at the gateway's station
+        for name, source, target, ports, flags in [("by the gateway, begun", THING, GATEWAY, (50005, 443), opens), ("by the gateway, in the midst of nothing", THING, GATEWAY, (50006, 443), acknowledges)]:
+            octets = tcp(source, target, ports, flags, to=far)
+            verdict = self.post("/packets", octets)["verdict"]
+            self.note(f"{name}: {verdict}", verdict.startswith("pass"), self.network.arrives(octets))
+
     def test_connections(self):
         """Entries that ask who began a connection, one of them to drop."""
         octets = usage_file(URL[THING], "from-device", dropped=True)
         self.approve(octets)
-        status, said = self.load()
+        status, said = self.load("--gateway")
         if self.has_module:
             self.note("with the kernel's module", (0, ""), (status, said))
-            begun, answer = tcp(THING, CLOUD, (50000, 443)), tcp(CLOUD, THING, (443, 50000), 18)
-            self.note("an answer to nothing", False, self.network.arrives(tcp(CLOUD, THING, (443, 50001), 18)))
-            self.note("a connection and its answer", (True, True), (self.network.arrives(begun), self.network.arrives(answer)))
+            self.connections()
         else:
             self.left_out("entries by the kernel's connections", "this kernel has no module nf_conntrack_bridge")
             self.note("without the module, status", 1, status)
-            self.holds("without the module, words", f"module nf_conntrack_bridge is missing, which the rules of {THING} ask: nothing is loaded" in said, said)
+            self.note("without the module, words", f"nft-rules: nothing but holds is loaded: the kernel hasn't the module nf_conntrack_bridge, which the files of {URL[THING]} ask for; --without-connections goes without it\n", said)
             self.note("without the module, what is loaded", "", self.rules())
         self.note("without connections", (0, ""), self.load("--without-connections", "--gateway"))
         for name, one in frames():

@@ -94,7 +94,8 @@ def lists():
 
 
 RULES = """\
-    ip daddr 198.51.100.7/32 ip dscp 46 ip ttl 64 meta l4proto tcp tcp sport 1024-65535 tcp dport != 443 tcp flags == 0x12 ct direction original counter accept comment "e1-1"
+    ip daddr 198.51.100.7/32 ip dscp 46 ip ttl 64 meta l4proto tcp tcp sport 1024-65535 tcp dport != 443 tcp flags == 0x12 tcp flags & (syn | rst | ack) == syn counter accept comment "e1-1"
+    ip daddr 198.51.100.7/32 ip dscp 46 ip ttl 64 meta l4proto tcp tcp sport 1024-65535 tcp dport != 443 tcp flags == 0x12 ct status confirmed ct direction original counter accept comment "e1-1"
     ip6 length 64 meta l4proto icmpv6 icmpv6 type 128 icmpv6 code 0 counter drop comment "e2-1"
     meta l4proto udp udp sport 53 counter accept comment "dns-1"
 """
@@ -103,10 +104,10 @@ ASKS = b"table bridge mud {\n  chain asks {\n    ct direction original accept\n 
 
 class Rules(Contrib):
     def test_rules(self):
-        """A rule for each item of lists that are written out."""
+        """The rules for each item of lists that are written out: two for one that asks whether the Thing began."""
         ended = self.status("nft-rules", 0, "contrib/nft-rules", MAC.upper(), input=lists())
         rules = ended.out.decode()
-        self.note("a rule for each item", RULES, "".join(line for line in rules.splitlines(True) if "comment" in line))
+        self.note("the rules for each item", RULES, "".join(line for line in rules.splitlines(True) if "comment" in line))
         self.note("a drop behind each list", 4, len(re.findall("^    counter drop$", rules, re.M)))
         self.note("of this address alone", {MAC}, set(re.findall("..:..:..:..:..:..", rules)))
         self.status("nft-rules of no lists", 1, "contrib/nft-rules", MAC, input=MESSAGE)
@@ -117,7 +118,7 @@ class Rules(Contrib):
         rules = run(MAC, program="contrib/nft-rules", input=lists()).out
         if run("-c", "-f", self.put("asks", ASKS), program="nft").status != 0:
             self.left_out("what asks for connections", "this kernel has no nf_conntrack_bridge")
-            rules = re.sub(rb" ct direction [a-z]*", b"", rules)
+            rules = re.sub(rb" ct status confirmed ct direction [a-z]*", b"", rules)
         ended = self.status("nft -c of the rules", 0, "nft", "-c", "-f", self.put("rules", rules))
         self.note("nft -c of the rules, words", b"", ended.errors)
 

@@ -7,7 +7,6 @@ environment that dnsmasq gives, 'feed' what a capture has, and its live verdicts
 import json
 import os
 import re
-import subprocess
 import time
 import urllib.request
 

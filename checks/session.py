@@ -240,6 +240,9 @@ def requests_of(path):
     return [one.octets[begin:end] for begin, end in zip([0] + ends, ends)]
 
 
+BULB = ("announce", "lease", "import", "approve", "dns", "name")
+
+
 def run_of_steps(*names):
-    """The run of some steps."""
+    """The run of some steps; those of BULB make a Thing with all that its file speaks of."""
     return Reader(["do " + " ".join(names)]).runs[0]

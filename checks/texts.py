@@ -68,23 +68,14 @@ def quoted(page):
 # ---- Sources
 
 Clause = collections.namedtuple("Clause", "crate file call name said text")
-TESTS = re.compile(r"#\[cfg\(test\)\]")
-MODULE = re.compile(r"(?:pub(?:\([a-z]+\))? )?mod ([a-z_0-9]+);")
-FUNCTION = re.compile(r"(    )?(?:pub(?:\([a-z]+\))? )?(?:const )?fn ([A-Za-z_0-9]*)")
 
 
 def sources(crate):
     """The source files of a crate that aren't tests: a module under #[cfg(test)] is a file, and perhaps a folder."""
     found = files(f"crates/{crate}/src/**/*.rt")
-    left_out = set()
-    for path in found:
-        home = re.sub(r"(/lib|/main)?\.rt$", "", path)
-        text = lines(path)
-        for mark, line in zip(text, text[1:]):
-            module = TESTS.match(mark) and MODULE.match(line)
-            if module:
-                left_out.add(f"{home}/{module[1]}")
-    return [path for path in found if not any(path.startswith((one + ".rt", one + "/")) for one in left_out)]
+    tests = [f"{re.sub(r'(/lib|/main)?[.]rt$', '', path)}/{name}{end}" for path in found for end in (".rt", "/")
+             for name in re.findall(r"^#\[cfg\(test\)\]\n(?:pub(?:\([a-z]+\))? )?mod (\w+);", read(path), re.M)]
+    return [path for path in found if not path.startswith(tuple(tests))]
 
 
 def behind_generics(text):
@@ -112,84 +103,51 @@ def owner_of(head):
     return type_name(behind if of_type else head), bool(of_type)
 
 
-class ClauseReader:
-    """Reads a source file line by line; 'found' are its clauses.
+# what stands under #[cfg(test)]: a module to its end, or one line
+UNDER_TESTS = re.compile(r"^#\[cfg\(test\)\](?:.*\n)(?:(?:pub(?:\([a-z]+\))? )?mod .*\{\n(?:[^}].*\n|\n)*|.*\n?)", re.M)
+# the head of an impl or a trait; an end at the margin; a function without a contract, or with the lines up to its body
+ITEM = re.compile(r"^(?P<head>(?:impl|(?:pub )?trait )(?:.*\n)*?.*?\{\}?)$|^\}"
+                  r"|^(?P<indent>(?:    )?)(?P<mark>pub(?:\([a-z]+\))? )?(?:const )?fn (?P<name>\w*)"
+                  r"(?:.*(?:\{\}?|;)$|.*\n(?P<lines>(?:.*\n)*?(?:.*[})];$|(?=(?P=indent)(?:\{\}?|\).*\{)$))))", re.M)
 
-    A call is a 'pub fn', a method of a 'pub trait', or a method of a trait's impl that has clauses of its own;
-    a method is written 'Type::name'. A clause without a name is '·', and the comment beside it is what is said."""
 
-    def __init__(self, path):
-        _, self.crate, _, self.file = path.split("/", 3)
-        self.found, self.owner, self.is_public, self.indent = [], "", False, ""
-        self.head = self.call = self.name = None
-        self.said, self.text = [], []
-        in_tests = marked = False
-        for line in lines(path):
-            if TESTS.match(line):
-                marked = True
-            elif marked or in_tests:
-                begins = marked and re.match(r"(pub(\([a-z]+\))? )?mod .*\{$", line)
-                in_tests, marked = bool(begins) or (in_tests and not marked and not line.startswith("}")), False
-            else:
-                self.take(line)
-        self.put()
+def contract_clauses(lines):
+    """The clauses of a contract: each its name, the comment beside it and its text. One without a name is '·'."""
+    found, said, clause = [], [], None
+    for bare in map(str.strip, lines):
+        word = re.match(r"//|requires|ensures\*?", bare)
+        if word and word[0] != "//" and not word[0].startswith("ensures"):
+            said, clause = [], None
+        elif bare.startswith("//"):
+            said, clause = ([] if clause else said) + [re.sub("^/+ *", "", bare)], None
+        elif word:
+            text = re.sub(r"^ensures\*? *", "", bare)
+            name = re.sub(r" *\{.*$", "", text)
+            said, clause = ([] if clause else said), (name or "·", [text[len(name):]])
+            found.append((clause, said))
+        elif clause:
+            clause[1].append(bare)
+    for (name, text), words in found:
+        yield name, " ".join(words), re.sub(r" *\};?$", "", re.sub(r" *\{ *", "", " ".join(text), count=1), count=1)
 
-    def put(self):
-        """What is known of a clause, once it ends."""
-        if self.name is not None:
-            text = re.sub(r" *\}$", "", re.sub(r" *\{ *", "", " ".join(self.text), count=1), count=1)
-            self.found.append(Clause(self.crate, self.file, self.call, self.name, " ".join(self.said), text))
-            self.said = []
-        self.name = None
 
-    def take(self, line):
-        bare = line.strip(" ")
-        if bare.startswith("//"):
-            if self.call:
-                self.put()
-                self.said.append(re.sub("^/+ *", "", bare))
-            return
-        if re.match("(impl|(pub )?trait )", line):
-            self.head = ""
-        if self.head is not None:
-            self.head = f"{self.head} {bare}".strip(" ")
-            if re.search(r"\{\}?$", bare):
-                (self.owner, self.is_public), self.head = owner_of(self.head), None
-        elif line.startswith("}"):
-            self.put()
-            self.owner, self.is_public, self.call = "", False, None
-        elif FUNCTION.match(line):
-            self.begin(line, FUNCTION.match(line))
-        elif self.call:
-            self.take_of_contract(line, bare)
-
-    def begin(self, line, function):
-        self.put()
-        self.said, self.indent = [], function[1] or ""
-        is_public = re.match(r" *pub (const )?fn ", line) or (self.indent and self.is_public)
-        has_contract = is_public and not re.search(r"\{\}?$", line)
-        self.call = (f"{self.owner}::" if self.indent and self.owner else "") + function[2] if has_contract else None
-
-    def take_of_contract(self, line, bare):
-        if line in (self.indent + "{", self.indent + "{}") or (line.startswith(self.indent + ")") and line.endswith("{")):
-            self.put()
-            self.call = None
-        elif bare.startswith("requires"):
-            self.put()
-            self.said = []
-        elif bare.startswith("ensures"):
-            self.put()
-            clause = re.sub(r"^ensures\*? *", "", bare)
-            name = re.sub(r" *\{.*$", "", clause)
-            self.name, self.text = name or "·", [clause[len(name):]]
-        elif self.name is not None:
-            self.text.append(line.lstrip(" "))
+def clauses_of(path):
+    """The clauses of a source file. A call is a 'pub fn', a method of a 'pub trait', or a method of a trait's impl that has
+    clauses of its own; a method is written 'Type::name'."""
+    _, crate, _, file = path.split("/", 3)
+    owner, is_public = "", False
+    for item in ITEM.finditer(UNDER_TESTS.sub("", read(path))):
+        if item["name"] is None:
+            owner, is_public = owner_of(re.sub(r"\s*\n\s*", " ", item["head"])) if item["head"] else ("", False)
+        elif item["lines"] is not None and (item["mark"] == "pub " or (item["indent"] and is_public)):
+            call = (f"{owner}::" if item["indent"] and owner else "") + item["name"]
+            yield from (Clause(crate, file, call, *clause) for clause in contract_clauses(item["lines"].splitlines()))
 
 
 @functools.lru_cache(None)
 def clauses(crate):
     """The clauses of the public calls of a crate."""
-    return [clause for path in sources(crate) for clause in ClauseReader(path).found]
+    return [clause for path in sources(crate) for clause in clauses_of(path)]
 
 
 # ---- Definitions
@@ -295,19 +253,12 @@ class Specs:
 
 
 def record_members():
-    """The members of the records of specs/, each as Record.member."""
+    """The members of the records of specs/, each as Record.member: the lines under a head that stand further in."""
+    record = re.compile(r"^( *)(?!.*--.*record)(?:.* )?record ([A-Za-z]+).*\n((?:\1 +.*\n|\s*\n)*)", re.M)
     found = set()
     for path in files("crates/*/specs/**/*.antt"):
-        record, margin = None, 0
-        for line in lines(path):
-            head = None if re.match(" *--", line) else re.search(r"(?:^| )record ([A-Za-z]+)", line)
-            indent = len(line) - len(line.lstrip(" "))
-            if head:
-                record, margin = head[1], indent
-            elif record and line.strip() and indent <= margin:
-                record = None
-            elif record and (member := re.match(r" +(?:pub )?([a-z_]+) :", line)):
-                found.add(f"{record}.{member[1]}")
+        for _, name, rows in record.findall(read(path)):
+            found.update(f"{name}.{member}" for member in re.findall(r"^ +(?:pub )?([a-z_]+) :", rows, re.M))
     return found
 
 

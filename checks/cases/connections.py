@@ -6,11 +6,8 @@ calls a minute apart, and has too little for as many at once.
 import resource
 import struct
 
-from checks import program
+from checks import program, session
 from checks.case import ProgramCase
-
-BULB = "https://lighting.example.com/lightbulb2000"
-SHA256 = "fde1333bdb4a776cc061761cd6a3b72458b458493e4ada81dc79bc7956eb2096"
 
 
 def calls(count, apart):
@@ -30,14 +27,10 @@ class Connections(ProgramCase):
         return ended.status, ended.out.count(b" pass from=accept:1\n")
 
     def test_memory(self):
-        requests = [
-            ("/hear/dhcp", program.read("examples/dhcp/made-url-and-more.bin")),
-            ("/files", program.read("examples/usage-files/made-lightbulb.json")),
-            ("/verdicts", f'{{"sha256":"{SHA256}","url":"{BULB}","verdict":"waived"}}'),
-            ("/leases", '{"address":"192.0.2.10","mac":"02:00:00:00:00:01","seconds":4294967295}'),
-            ("/names", '{"address":"198.51.100.7","name":"test.example.com","ttl":2147483647}')]
-        octets = b"".join(program.request("POST", target, body) for target, body in requests)
-        ended = program.run("replay", self.path("store"), input=octets)
+        made = session.run_of_steps("announce", "import", "approve").octets
+        made += program.request("POST", "/leases", '{"address":"192.0.2.10","mac":"02:00:00:00:00:01","seconds":4294967295}')
+        made += program.request("POST", "/names", '{"address":"198.51.100.7","name":"test.example.com","ttl":2147483647}')
+        ended = program.run("replay", self.path("store"), input=made)
         self.note("what makes the store, answers", [200] * 5, [answer.status for answer in program.answers(ended.out)])
         few = self.put("few", calls(200, 60))
         limit = next((limit for limit in range(1, 1025) if self.judge(limit, few)[0] == 0), 1025)

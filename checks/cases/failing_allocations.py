@@ -29,13 +29,12 @@ MARK = 9
 # The calls of the C library's own functions, as opendir, aren't counted: they come from elsewhere.
 FAILING = r"""
 #define _GNU_SOURCE
-#include <dlfcn.h>
 #include <errno.h>
 #include <link.h>
 #include <stdlib.h>
 #include <unistd.h>
 
-static void *(*real_malloc)(size_t), *(*real_calloc)(size_t, size_t), *(*real_realloc)(void *, size_t);
+void *__libc_malloc(size_t), *__libc_calloc(size_t, size_t), *__libc_realloc(void *, size_t);
 static char *from, *to;
 static long left = -1;
 
@@ -49,17 +48,9 @@ static int main_program(struct dl_phdr_info *info, size_t size, void *data) {
   return 1;
 }
 
-static void find(void) {
-  real_malloc = dlsym(RTLD_NEXT, "malloc");
-  real_calloc = dlsym(RTLD_NEXT, "calloc");
-  real_realloc = dlsym(RTLD_NEXT, "realloc");
-}
-
 __attribute__((constructor)) static void begin(void) {
-  find();
   dl_iterate_phdr(main_program, NULL);
-  char *number = getenv("FAIL_ALLOCATION");
-  if (number != NULL) left = atol(number);
+  left = atol(getenv("FAIL_ALLOCATION"));
 }
 
 static int fails(char *caller) {
@@ -70,18 +61,9 @@ static int fails(char *caller) {
   return 1;
 }
 
-void *malloc(size_t size) {
-  if (real_malloc == NULL) find();
-  return fails(__builtin_return_address(0)) ? NULL : real_malloc(size);
-}
-void *calloc(size_t count, size_t size) {
-  if (real_calloc == NULL) find();
-  return fails(__builtin_return_address(0)) ? NULL : real_calloc(count, size);
-}
-void *realloc(void *place, size_t size) {
-  if (real_realloc == NULL) find();
-  return fails(__builtin_return_address(0)) ? NULL : real_realloc(place, size);
-}
+void *malloc(size_t size) { return fails(__builtin_return_address(0)) ? NULL : __libc_malloc(size); }
+void *calloc(size_t count, size_t size) { return fails(__builtin_return_address(0)) ? NULL : __libc_calloc(count, size); }
+void *realloc(void *place, size_t size) { return fails(__builtin_return_address(0)) ? NULL : __libc_realloc(place, size); }
 """
 
 SYN = bytes.fromhex("0200000000fe020000000001080045000028000100004006" "0000c000020ac6336407c35001bb0000000100000000" "5002ffff00000000")
@@ -111,7 +93,7 @@ class FailingAllocations(ProgramCase):
         super().setUp()
         self.tables_kept = {}
         self.put("failing.c", FAILING.encode())
-        subprocess.run(["cc", "-shared", "-fPIC", "-O1", "-o", self.path("failing.so"), self.path("failing.c"), "-ldl"], check=True)
+        subprocess.run(["cc", "-shared", "-fPIC", "-O1", "-o", self.path("failing.so"), self.path("failing.c")], check=True)
         self.seen = os.open(self.path("seen"), os.O_RDWR | os.O_CREAT)
         self.addCleanup(os.close, self.seen)
 

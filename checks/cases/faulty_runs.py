@@ -17,12 +17,14 @@ FILE = "examples/usage-files/made-lightbulb.json"
 CAPTURE = "examples/captures/vlan-trunk.pcap"
 REQUESTS = "examples/console/first-requests.txt"
 STORE = "examples/judge/store.sql"
-FULL = "the output can't be written: No space left on device (os error 28)"
-BAD_OUTPUT = "the output can't be written: Bad file descriptor (os error 9)"
+FULL = "/dev/full"
+OUTPUTS = {FULL: ("a full device", "the output can't be written: No space left on device (os error 28)"),
+           CLOSED: ("a closed output", "the output can't be written: Bad file descriptor (os error 9)")}
+UNOPENED = "the store can't be opened: its folder isn't there, or the file may not be read and written"
 BAD_INPUT = "the input can't be read: Is a directory (os error 21)"
 COMMANDS = "hear check frames judge snoop tally import report export replay serve drill".split()
 UNLISTED = [line.strip() for line in """
-    judge|judge -s|judge a b|tally|tally -t|tally a b|import|import a|import -a b|import a -b|import a b c|replay|replay -s
+    hear|hear dhcp dhcp|Check|-h|judge|judge -s|judge a b|tally|tally -t|tally a b|import|import a|import -a b|import a -b|import a b c|replay|replay -s
     replay a b|report|report a|report a thing|report a Things|report a things b|report -a things|export|export a
     export a 02:00:00:00:00|export a 02-00-00-00-00-01|export a 02:00:00:00:00:01 b|export -a 02:00:00:00:00:01|serve|serve a
     serve a 8080|serve a 8080 1 1|serve -a 8080 1|serve a 0 1|serve a 65536 1|serve a 08080 1|serve a +8080 1|serve a 8080 0
@@ -54,16 +56,12 @@ class FaultyRuns(ProgramCase):
         self.silent(what, status, ended)
         self.says(what, sentence, ended)
 
-    def is_full(self, what, *words, **more):
-        """The words end with 4 at a full device, and say so."""
-        ended = run(*words, out="/dev/full", **more)
-        self.note(what + " to a full device, status", 4, ended.status)
-        self.says(what + " to a full device", FULL, ended)
-
-    def is_closed(self, what, *words, **more):
-        ended = run(*words, out=CLOSED, **more)
-        self.note(what + " to a closed output, status", 4, ended.status)
-        self.says(what + " to a closed output", BAD_OUTPUT, ended)
+    def unwritten(self, what, *words, outputs=(FULL, CLOSED), **more):
+        """The words end with 4 at an output that takes nothing, and say so."""
+        for out in outputs:
+            ended = run(*words, out=out, **more)
+            self.note(f"{what} to {OUTPUTS[out][0]}, status", 4, ended.status)
+            self.says(f"{what} to {OUTPUTS[out][0]}", OUTPUTS[out][1], ended)
 
 
 class Words(FaultyRuns):
@@ -76,19 +74,9 @@ class Words(FaultyRuns):
         return ended.errors.decode().replace(" hear lldp", " ")
 
     def test_unlisted(self):
-        self.unlisted("no words")
-        self.unlisted("hear without a second word", "hear")
-        self.unlisted("three words", "hear", "dhcp", "dhcp")
-        self.unlisted("an empty word", "hear", "")
-        self.unlisted("an unlisted word", "Check")
-        self.unlisted("a word with a dash", "-h")
-        self.unlisted("a word that isn't UTF-8", "hear", b"dhcp\xff")
-        self.unlisted("one word that isn't UTF-8", b"\xc3")
-        for words in UNLISTED:
-            self.unlisted(words, *words.split())
-        self.unlisted("judge with an empty word", "judge", "")
-        self.unlisted("import with an empty word", "import", self.path("none"), "")
-        self.unlisted("serve with an empty word", "serve", "", "8080", "1")
+        for words in [line.split() for line in UNLISTED] + [
+                [], ["hear", ""], ["hear", b"dhcp\xff"], [b"\xc3"], ["judge", ""], ["import", self.path("none"), ""], ["serve", "", "8080", "1"]]:
+            self.unlisted(f"the words {words}", *words)
         self.note("whether words that are no listed line make a store", [], os.listdir(self.folder))
 
     def test_usage(self):
@@ -102,10 +90,8 @@ class Input(FaultyRuns):
     """3: the input breaks a rule; the line is the fault's."""
 
     def test_empty(self):
-        self.line("an empty message", 3, "fault Cut 0", run("hear", "dhcp"))
-        self.line("an empty capture", 3, "fault Cut 0", run("frames"))
-        self.line("an empty usage file", 3, "fault Json", run("check"))
-        self.line("an empty capture that is judged", 3, "fault Cut 0", run("judge", ":memory:"))
+        for words, line in (("hear dhcp", "fault Cut 0"), ("frames", "fault Cut 0"), ("check", "fault Json"), ("judge :memory:", "fault Cut 0")):
+            self.line(f"{words} of nothing", 3, line, run(*words.split()))
 
     def test_longest_packets(self):
         """64 packets of 262,144 octets, and the head of one that is longer."""
@@ -137,14 +123,13 @@ class Failures(FaultyRuns):
         frame = "examples/lldp/lldpd-mud-01.bin"
         for words, path in (("hear dhcp", MESSAGE), ("hear lldp", frame), ("check", FILE), ("frames", CAPTURE),
                             ("judge :memory:", CAPTURE), ("replay :memory:", REQUESTS)):
-            self.is_full(words, *words.split(), input=path)
-            self.is_closed(words, *words.split(), input=path)
+            self.unwritten(words, *words.split(), input=path)
             self.is_refused(f"{words} of a closed input", 4, BAD_INPUT, run(*words.split(), input=CLOSED))
             self.is_refused(f"{words} of a folder", 4, BAD_INPUT, run(*words.split(), input="examples"))
         ended = run("frames", input=CAPTURE)
         self.note("a whole capture, status", 0, ended.status)
         self.note("a whole capture, lines", 44, ended.out.count(b"\n"))
-        self.is_full("drill", "drill", "1")
+        self.unwritten("drill", "drill", "1", outputs=[FULL])
 
     def test_reports(self):
         store, thing = self.path("store"), "02:00:00:00:00:01"
@@ -152,17 +137,16 @@ class Failures(FaultyRuns):
         self.note("report of an empty table to a full device, status", 0, ended.status)
         self.note("replay into a store, status", 0, run("replay", store, input=REQUESTS).status)
         self.line("report of a store", 0, "local 192.0.2.0/24", run("report", store, "locals", input=CLOSED))
-        self.is_full("report", "report", store, "locals")
+        self.unwritten("report", "report", store, "locals")
         self.line("export of no Thing", 3, "fault NoThing", run("export", store, thing, input=CLOSED))
-        self.is_full("export of no Thing", "export", store, thing)
-        self.is_closed("report", "report", store, "locals")
+        self.unwritten("export of no Thing", "export", store, thing, outputs=[FULL])
 
     def test_answers(self):
         """Where an answer can't be written, its request stays carried out, and none behind it is."""
         store = self.path("store")
         two = (program.request("PUT", "/locals", '{"prefixes":["192.0.2.0/25"]}', 5)
                + program.request("POST", "/classes", '{"address":"192.0.2.53","class":"urn:ietf:params:mud:dns"}', 6))
-        self.is_full("replay of two requests", "replay", store, input=two)
+        self.unwritten("replay of two requests", "replay", store, input=two, outputs=[FULL])
         self.note("the first one's networks", b"local 192.0.2.0/25\n", run("report", store, "locals").out)
         self.silent("the second one's classes", 0, run("report", store, "classes"))
 
@@ -170,8 +154,7 @@ class Failures(FaultyRuns):
         os.makedirs(self.path("other/1-folder.json"))
         os.mkdir(self.path("files"))
         self.put("files/1000-empty.json", b"")
-        self.is_full("import", "import", ":memory:", self.path("files"))
-        self.is_closed("import", "import", ":memory:", self.path("files"))
+        self.unwritten("import", "import", ":memory:", self.path("files"))
         for what, path, sentence in (
                 ("a folder that isn't there", self.path("none"), "the folder can't be read: No such file or directory (os error 2)"),
                 ("a file in a folder's place", FILE, "the folder can't be read: Not a directory (os error 20)"),
@@ -195,7 +178,7 @@ class Items(FaultyRuns):
         sql(bad, read(STORE))
         sql(bad, "UPDATE item SET body = X'' WHERE kind = 1")
         self.unread("a store with a bad item", fault, CAPTURE, "judge", bad)
-        self.is_full("a store with a bad item", "judge", bad, input=CAPTURE)
+        self.unwritten("a store with a bad item", "judge", bad, input=CAPTURE, outputs=[FULL])
         self.line("import into a store with a bad item", 6, fault, run("import", bad, files))
         for words in (("replay", bad), ("report", bad, "names"), ("serve", bad, "8080", "1")):
             self.unread(f"{words[0]} with a bad item", fault, REQUESTS, *words)
@@ -209,8 +192,7 @@ class Items(FaultyRuns):
 
     def test_bad_stamp(self):
         """Of several bad items the first is named, and one with an empty key without a key."""
-        sql(self.path("stamp"), "CREATE TABLE item (kind INTEGER NOT NULL, name BLOB NOT NULL, body BLOB NOT NULL, "
-            "PRIMARY KEY (kind, name)) STRICT; INSERT INTO item VALUES (6, X'', X'01'), (7, X'00', X'01')")
+        sql(self.path("stamp"), program.ITEMS + "; INSERT INTO item VALUES (6, X'', X'01'), (7, X'00', X'01')")
         self.line("a store with a bad stamp", 6, "fault item 6", run("report", self.path("stamp"), "things"))
 
 
@@ -227,10 +209,10 @@ class Keeper(FaultyRuns):
             self.is_refused(words[0], 7, f"{store}: {sentence}", run(*words, input=REQUESTS))
 
     def test_no_folder(self):
-        self.refused(self.path("none/store"), "the store can't be opened: its folder isn't there, or the file may not be read and written")
+        self.refused(self.path("none/store"), UNOPENED)
 
     def test_folder(self):
-        self.refused(self.folder, "the store can't be opened: its folder isn't there, or the file may not be read and written")
+        self.refused(self.folder, UNOPENED)
 
     def test_text(self):
         self.refused(self.put("text", (b"no store\n" * 600)[:5000]), "it is no store, or it is damaged")

@@ -111,7 +111,7 @@ FOUR_LINES = ["1 1795735776 link", "2 1795735776 link", "3 1795735776 packet 192
 class Captures(Hostile):
     def bulb(self):
         """A store with the bulb, made by requests."""
-        made, store = session.run_of_steps("announce", "lease", "import", "approve", "dns", "name"), self.path("bulb")
+        made, store = session.run_of_steps(*session.BULB), self.path("bulb")
         ended = run("replay", store, input=made.octets)
         self.assertEqual(ended.out, made.wanted)
         return store

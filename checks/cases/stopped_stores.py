@@ -8,7 +8,6 @@ that was acknowledged, and at most the one behind them. Then come files that can
 file, a limit on the sizes of files and, where one may be mounted, a small file system that fills up.
 """
 import contextlib
-import hashlib
 import os
 import random
 import re
@@ -134,17 +133,9 @@ class Opened(Stores):
             shutil.rmtree(elsewhere)
 
 
-def six():
-    """Six requests, by which a Thing gets an address, an approved usage file, a DNS server, and the address of the
-    server that the file names, all at the moment 1000; and the body of each answer."""
-    digest = hashlib.sha256(read(BULB)).hexdigest()
-    return [
-        ("/hear/dhcp", read("examples/dhcp/made-url-and-more.bin"), f'{{"heard":"url","mac":"{MAC}","result":"new","url":"{URL}"}}'),
-        ("/leases", f'{{"address":"192.0.2.10","mac":"{MAC}","seconds":86400}}', '{"result":"new","until":87400}'),
-        ("/files", read(BULB), f'{{"result":"new","url":"{URL}"}}'),
-        ("/verdicts", f'{{"sha256":"{digest}","url":"{URL}","verdict":"waived"}}', '{"result":"approved"}'),
-        ("/classes", '{"address":"192.0.2.53","class":"urn:ietf:params:mud:dns"}', '{"result":"bound"}'),
-        ("/names", '{"address":"198.51.100.7","name":"test.example.com","ttl":60}', '{"result":"new","until":1060}')]
+# six requests, by which a Thing gets an address, an approved usage file, a DNS server, and the address of the server that the
+# file names, all at the moment 1000
+SIX = session.run_of_steps(*session.BULB)
 
 
 def listed(count):
@@ -160,13 +151,12 @@ class Killed(Stores):
         """The six requests over a new store, by the program, in front of which these words stand."""
         clear_store(self.store)
         words = [*words, program.PROGRAM, "replay", self.store]
-        return run(*words[1:], input=b"".join(request("POST", target, body) for target, body, _ in six()), program=words[0])
+        return run(*words[1:], input=SIX.octets, program=words[0])
 
     def behind(self, what, ended, more):
         """The answers that came are the first ones; opened again, the store lists what it does after as many requests,
         or, where more is 1, after one more. How many were answered."""
-        wanted = b"".join(session.answer(200, body) for _, _, body in six())
-        self.note(what + ", the answers", wanted[:len(ended.out)], ended.out)
+        self.note(what + ", the answers", SIX.wanted[:len(ended.out)], ended.out)
         answered = ended.out.count(b"HTTP/1.1 200 OK")
         reports = [run("report", self.store, kind) for kind in ("things", "files", "classes", "locals", "names")]
         self.note(what + ", opened again, status", [0] * 5, [report.status for report in reports])

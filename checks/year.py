@@ -34,8 +34,9 @@ def begin_of(month):
 # ---- Names, files and frames
 
 def name_of(number, month):
-    """The name of this number in a month, counted from 0: the first ones last, the others are new in each."""
-    return f"host{number:04}.example.com" if number < LASTING else f"host{number:04}-{month:02}.example.com"
+    """The name of this number in a month, counted from 0. The first ones last; the others are new in each, and come in
+    no order."""
+    return (f"host{number:04}" if number < LASTING else hashlib.sha256(f"{number} {month}".encode()).hexdigest()[:12]) + ".example.com"
 
 
 def peer_of(number, month):

@@ -6,11 +6,15 @@ store; a judge of ten million packets; and a serve of a quarter of an hour, of w
 The input stops at each month's end, and is measured when all answers have come: the memory that is resident and the
 most so far, the octets of the store's file, the most that its log had in the month, and the instructions of an opening
 of a copy of both (without valgrind the least of five times). Each month's figures are printed.
+
+One figure grows, and has a bound of its own: the database gives a page back only once nothing is left on it, so the
+file grows with each name that comes anew (docs/GUIDE.md says how far). So it is measured too as SQLite writes it anew.
 """
 import contextlib
 import itertools
 import os
 import socket
+import sqlite3
 import subprocess
 import threading
 import time
@@ -21,6 +25,7 @@ from checks.case import ProgramCase, there_is
 from checks.program import PROGRAM, Server, answers, clear_store, copy_store, request, run
 
 GROWTH = 1.1
+A_NAME = 64
 FOR_EVER = 4_294_967_295
 JUDGED, PIECE = 2_000_000, 10_000
 MINUTES, CYCLE = 15, 3
@@ -69,11 +74,13 @@ class Figures:
         said = ", ".join(f"{name.replace('_', ' ')} {figure}" for name, figure in figures.items())
         print(f"a-year: {self.part}, {self.unit} {len(self.rows)}: {said}", flush=True)
 
-    def compare(self, case, early, late):
-        """Of each figure the late one is at most 1.1 times the early one."""
+    def compare(self, case, early, late, names=0):
+        """Of each figure the late one is at most 1.1 times the early one; the file may have 64 octets more for each of so
+        many names, which came anew between the two."""
         for name, before in self.rows[early - 1].items():
             after = self.rows[late - 1][name]
-            case.holds(f"{self.part}: {name} of {self.unit} {late}", 0 < after <= GROWTH * before,
+            most = GROWTH * before + (A_NAME * names if name == "octets_of_the_file" else 0)
+            case.holds(f"{self.part}: {name} of {self.unit} {late}", 0 < after <= most,
                        f"{after}, and {before} of {self.unit} {early}: {after / max(before, 1):.2f} times")
 
 
@@ -126,6 +133,13 @@ def opening(store, copy):
     return {"microseconds_of_an_opening": round(min(times) * 1e6)}
 
 
+def written_anew(store):
+    """The octets of a store's file once SQLite has written it anew, without its log."""
+    with contextlib.closing(sqlite3.connect(store, isolation_level=None)) as database:
+        database.execute("VACUUM")
+    return os.path.getsize(store)
+
+
 def memory(process):
     resident, most = measure.memory_of(process)
     return {"kB_resident": resident, "kB_at_most": most}
@@ -148,6 +162,8 @@ class AYear(ProgramCase):
         words = [line.split()[0].decode() for line in lines.splitlines()]
         self.note(f"{what}: what the store has", kinds, {kind: words.count(kind) for kind in kinds})
         figures = {"octets_of_the_file": os.path.getsize(store), "octets_of_the_log": log.taken(), **opening(store, copy)}
+        names, figures["octets_written_anew"] = run("report", copy, "names").out, written_anew(copy)
+        self.note(f"{what}: the names of the file that is written anew", names, run("report", copy, "names").out)
         clear_store(copy)
         return figures
 
@@ -166,7 +182,7 @@ class AYear(ProgramCase):
                 self.answered(f"replay, month {month + 1}", fed, octets, count)
                 figures.add(**memory(fed.process), **self.kept(f"replay, month {month + 1}", store, log))
             self.note("replay: its end", (0, b""), fed.ended())
-        figures.compare(self, 2, 12)
+        figures.compare(self, 2, 12, 10 * year.NAMES)
 
     def answered(self, what, fed, octets, count):
         """A month's requests, until each has its answer."""
@@ -182,7 +198,7 @@ class AYear(ProgramCase):
         renewed -= year.THINGS if what.endswith(" 1") else 0
         self.note(f"{what}: answers with 200", count, got.count(b"HTTP/1.1 200 OK\r\n"))
         self.note(f"{what}: packets that pass", packets, got.count(b'{"verdict":"pass '))
-        self.holds(f"{what}: renewals", renewed <= got.count(b'"renewed"'))
+        self.note(f"{what}: renewals", renewed, got.count(b'"renewed"'))
 
     def snooped(self, store, log):
         figures = Figures("snoop")
@@ -191,7 +207,7 @@ class AYear(ProgramCase):
             what = f"snoop, month {month + 1}"
             self.note(f"{what}: status and names", (0, year.NAMES), (ended.status, ended.out.count(b" new\n")))
             figures.add(**self.kept(what, store, log))
-        figures.compare(self, 2, 12)
+        figures.compare(self, 2, 12, 10 * year.NAMES)
 
     def imported(self, store, log):
         figures, folder = Figures("import"), self.path("files")
@@ -230,7 +246,7 @@ class AYear(ProgramCase):
                 break
             whole, _, rest = (rest + piece).rpartition(b"\n")
             lines += whole.count(b"\n") + bool(whole)
-            counts = [count + (whole + b"\n").count(said) for count, said in zip(counts, (b" pass from=accept:1\n", b" pass to=accept:1\n"))]
+            counts = [count + (whole + b"\n").count(b" pass %s=accept:1\n" % side) for count, side in zip(counts, (b"from", b"to"))]
         writer.join()
         self.note(f"{what}: packets that pass", [3 * (end - first), 2 * (end - first)], counts)
 
@@ -318,8 +334,8 @@ class Clients:
 def asked(number):
     """What the client of this number asks: a lease, a name that is new, a packet, and lists."""
     thing, name = number % year.THINGS, year.LASTING + number % (year.NAMES - year.LASTING)
-    address = year.inputs.dotted(year.inputs.address_of(thing))
-    yield request("POST", "/leases", year.inputs.compact({"mac": year.inputs.mac_of(thing).hex(":"), "address": address, "seconds": 3600 + number}), None)
+    mac, address = year.inputs.mac_of(thing).hex(":"), year.inputs.dotted(year.inputs.address_of(thing))
+    yield request("POST", "/leases", year.inputs.compact({"mac": mac, "address": address, "seconds": year.LEASE + number}), None)
     month = 1 + number // (year.NAMES - year.LASTING)
     body = {"name": year.name_of(name, month), "address": year.inputs.dotted(year.peer_of(name, month % year.MONTHS)), "ttl": 1}
     yield request("POST", "/names", year.inputs.compact(body), None)

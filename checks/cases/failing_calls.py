@@ -434,7 +434,7 @@ class FailingCalls(ProgramCase):
         tempfile.tempdir = self.folder
         self.addCleanup(setattr, tempfile, "tempdir", None)
         with ThreadPoolExecutor(os.cpu_count()) as several:
-            for run, is_right in each_failure(SCENES[name](), several):
-                if run.hit and run.hit.on != "loader":
-                    self.holds(run.hit.line, is_right, f"ended with {run.status} and wrote {run.wrote!r:.500}\n"
-                               f"  and keeps {run.tables!r:.500}\n  and says {run.said!r:.500}")
+            for ended, is_right in each_failure(SCENES[name](), several):
+                if ended.hit and ended.hit.on != "loader":
+                    self.holds(ended.hit.line, is_right, f"ended with {ended.status} and wrote {ended.wrote!r:.500}\n"
+                               f"  and keeps {ended.tables!r:.500}\n  and says {ended.said!r:.500}")

@@ -356,6 +356,7 @@ class Refusing(OnPage):
                               ((507, b'{"rule":"memory"}', 0), "The manager has no memory for it."),
                               ((409, b'{"book":"files","refused":8,"rule":"PolicyFull"}', 0), "The approved files would have too many entries together."),
                               ((403, b"<html>", 0), "The site refuses it."),
+                              ((429, b"<html>", 0), "Too many requests wait. Try again in a moment."),
                               ((200, b'{"resu', 100), "can't be reached"),
                               ((200, b'{"resu', 0), "What came is no whole answer of the manager.")):
             said["POST/holds"] = answer

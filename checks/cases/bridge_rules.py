@@ -81,8 +81,12 @@ def frame(source, target, protocol, payload, to=None):
     return bytes.fromhex((target + source).replace(":", "")) + b"\x08\x00" + head + payload
 
 
-def tcp(source, target, ports, flags=2, to=None):
-    return frame(source, target, 6, struct.pack(">HHIIBBHHH", *ports, 1, 0, 0x50, flags, 65535, 0, 0), to)
+def tcp(source, target, ports, flags=2, to=None, numbers=(1000, 0)):
+    """A segment with these sequence numbers and with its checksum, by which the kernel follows connections."""
+    head = struct.pack(">HHIIBBHHH", *ports, *numbers, 0x50, flags, 65535, 0, 0)
+    ends = socket.inet_aton(ADDRESS[source]) + socket.inet_aton(to or ADDRESS[target])
+    summed = struct.pack(">H", checksum(ends + struct.pack(">HH", 6, len(head)) + head))
+    return frame(source, target, 6, head[:16] + summed + head[18:], to)
 
 
 def udp(source, target, ports, to=None):
@@ -318,23 +322,19 @@ class Bridge(ProgramCase):
     def connections(self):
         """Packets of connections in the order of their moments: each arrives exactly where its verdict is 'pass'. What
         passes is what the manager and the kernel see."""
-        opens, accepts, acknowledges = 2, 18, 16
-        cloud, far = (50000, 443), ADDRESS[CLOUD]
-        rows = [("an answer to nothing", CLOUD, THING, (443, 50001), accepts), ("a packet of the Thing's in the midst of nothing", THING, CLOUD, (50001, 443), acknowledges),
-                ("one of the server's in the midst of nothing", CLOUD, THING, (443, 50001), acknowledges), ("what the server begins", CLOUD, THING, (443, 50002), opens),
-                ("an answer to what was dropped", THING, CLOUD, (50002, 443), accepts), ("what the Thing begins", THING, CLOUD, cloud, opens),
-                ("once more", THING, CLOUD, cloud, opens), ("its answer", CLOUD, THING, cloud[::-1], accepts), ("what follows", THING, CLOUD, cloud, acknowledges),
-                ("what follows the other way", CLOUD, THING, cloud[::-1], acknowledges), ("a beginning within it by the server", CLOUD, THING, cloud[::-1], opens),
-                ("another port", THING, CLOUD, (50000, 8080), opens), ("its answer", CLOUD, THING, (8080, 50000), accepts),
-                ("a port that is dropped, whoever began", THING, CLOUD, (50000, 44), opens), ("a port that nobody is asked of", CLOUD, THING, (80, 50003), acknowledges)]
-        self.network.learn()
-        for name, source, target, ports, flags in rows:
-            octets = tcp(source, target, ports, flags)
-            verdict = self.post("/packets", octets)["verdict"]
-            self.note(f"{name}: {verdict}", verdict.startswith("pass"), self.network.arrives(octets))
-        # what goes by the gateway as a router: the same address, at the gateway's station
-        for name, source, target, ports, flags in [("by the gateway, begun", THING, GATEWAY, (50005, 443), opens), ("by the gateway, in the midst of nothing", THING, GATEWAY, (50006, 443), acknowledges)]:
-            octets = tcp(source, target, ports, flags, to=far)
+        opens, accepts, acknowledges = (2, (1000, 0)), (18, (5000, 1001)), (16, (1001, 5001))
+        here, there = (50000, 443), (443, 50000)
+        rows = [("an answer to nothing", CLOUD, THING, (443, 50001), accepts), ("the Thing in the midst of nothing", THING, CLOUD, (50001, 443), acknowledges),
+                ("the server in the midst of nothing", CLOUD, THING, (443, 50001), acknowledges), ("what the server begins", CLOUD, THING, (443, 50002), opens),
+                ("an answer to what was dropped", THING, CLOUD, (50002, 443), accepts), ("what the Thing begins", THING, CLOUD, here, opens),
+                ("once more", THING, CLOUD, here, opens), ("its answer", CLOUD, THING, there, accepts), ("what follows", THING, CLOUD, here, acknowledges),
+                ("what follows the other way", CLOUD, THING, there, (16, (5001, 1001))), ("what the server begins within it", CLOUD, THING, there, opens),
+                ("another port", THING, CLOUD, (50000, 8080), opens), ("an answer of another port", CLOUD, THING, (8080, 50000), accepts),
+                ("a port that is dropped, whoever began", THING, CLOUD, (50000, 44), opens), ("a port of which nobody asks", CLOUD, THING, (80, 50003), acknowledges),
+                ("by the gateway, begun", THING, GATEWAY, (50005, 443), opens), ("by the gateway, in the midst of nothing", THING, GATEWAY, (50006, 443), acknowledges)]
+        for name, source, target, ports, (flags, numbers) in rows:
+            # what goes by the gateway has the server's address at the gateway's station
+            octets = tcp(source, target, ports, flags, ADDRESS[CLOUD] if target == GATEWAY else None, numbers)
             verdict = self.post("/packets", octets)["verdict"]
             self.note(f"{name}: {verdict}", verdict.startswith("pass"), self.network.arrives(octets))
 

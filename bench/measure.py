@@ -90,6 +90,12 @@ def most_memory(words, source):
     return peak
 
 
+def seconds_run(process):
+    """For how long a process has run on a processor."""
+    with open(f"/proc/{process.pid}/schedstat", encoding="ascii") as times:
+        return int(times.read().split()[0]) / 1e9
+
+
 def memory_of(process):
     """The memory in kB that a process has now, and the most that it had so far."""
     with open(f"/proc/{process.pid}/status", encoding="ascii") as status:
@@ -155,9 +161,7 @@ class Console:
         return self.seconds_run() - before
 
     def seconds_run(self):
-        """For how long the program has run on a processor."""
-        with open(f"/proc/{self.process.pid}/schedstat", encoding="ascii") as times:
-            return int(times.read().split()[0]) / 1e9
+        return seconds_run(self.process)
 
     def memory(self):
         return memory_of(self.process)[1]

@@ -184,10 +184,10 @@ def tables_of(store):
 
 # ---- Captures and stores
 
-def capture(packets, link=1):
+def capture(packets, link=1, order="<", magic=0xA1B2C3D4):
     """A capture in the classic format of packets, each its second and its octets."""
-    head = struct.pack("<IHHIIII", 0xA1B2C3D4, 2, 4, 0, 0, 262144, link)
-    return head + b"".join(struct.pack("<IIII", second, 0, len(octets), len(octets)) + octets for second, octets in packets)
+    head = struct.pack(order + "IHHIIII", magic, 2, 4, 0, 0, 262144, link)
+    return head + b"".join(struct.pack(order + "IIII", second, 0, len(octets), len(octets)) + octets for second, octets in packets)
 
 
 def packets_of(octets):

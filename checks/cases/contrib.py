@@ -45,15 +45,12 @@ class Texts(Contrib):
 
     @needs("systemd-analyze")
     def test_units(self):
-        for name, unit, words in (("mud.service", "mud.service", PROGRAM),
-                                  ("mud-listen@.service", "mud-listen@br0.service", os.path.abspath("contrib/listen")),
-                                  ("mud-rules.service", "mud-rules.service", os.path.abspath("contrib/nft-rules")),
-                                  ("mud-metrics.service", "mud-metrics.service", os.path.abspath("contrib/metrics")),
-                                  ("mud-fetch.service", "mud-fetch.service", os.path.abspath("contrib/fetch"))):
+        for name, script in (("mud.service", PROGRAM), ("mud-listen@.service", "contrib/listen"), ("mud-rules.service", "contrib/nft-rules"),
+                             ("mud-metrics.service", "contrib/metrics"), ("mud-fetch.service", "contrib/fetch")):
+            unit, words = name.replace("@", "@br0"), os.path.abspath(script)
             text = re.sub("^ExecStart=[^ \n]*", f"ExecStart={words}", texts.read("contrib/" + name), flags=re.M)
             # what loads rules needn't be there
-            text = re.sub(r"^(Exec\w+=\+)/usr/sbin/nft", rf"\1{words}", text, flags=re.M)
-            path = self.put(unit, text.encode())
+            path = self.put(unit, re.sub(r"^(Exec\w+=\+)/usr/sbin/nft", rf"\1{words}", text, flags=re.M).encode())
             ended = self.status(f"verify {unit}", 0, "systemd-analyze", "verify", "--man=no", path)
             self.note(f"verify {unit}, words", b"", ended.out + ended.errors)
             # the threshold is ten times the figure

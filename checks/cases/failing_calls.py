@@ -22,6 +22,7 @@ With 4 and 7, and where the answer is 503, standard error is told why, and else 
 does no harm all is as due; never is there another answer. Each call that failed counts one. ERROR names another error
 than EIO, as ENOSPC.
 """
+import contextlib
 import functools
 import os
 import re
@@ -318,18 +319,12 @@ class Serve(Scene):
 def ask(port, octets):
     """What comes back of a connection that sends these octets, up to a whole answer or the end."""
     came = b""
-    try:
-        with socket.create_connection(("127.0.0.1", port), timeout=LONGEST) as client:
-            client.sendall(octets)
-            if not octets:
-                client.shutdown(socket.SHUT_WR)
-            while not re.search(rb"\r\n\r\n\{.*\}$", came):
-                piece = client.recv(65536)
-                if not piece:
-                    break
-                came += piece
-    except OSError:
-        pass
+    with contextlib.suppress(OSError), socket.create_connection(("127.0.0.1", port), timeout=LONGEST) as client:
+        client.sendall(octets)
+        if not octets:
+            client.shutdown(socket.SHUT_WR)
+        while not re.search(rb"\r\n\r\n\{.*\}$", came) and (piece := client.recv(65536)):
+            came += piece
     return came
 
 

@@ -55,13 +55,7 @@ class Clients(ProgramCase):
         """A client that sends one octet a write."""
         with Server(1) as server, connected(server.port) as client:
             client.setsockopt(socket.IPPROTO_TCP, socket.TCP_NODELAY, 1)
-
-            def send():
-                for octet in asked().octets:
-                    client.sendall(bytes([octet]))
-                client.shutdown(socket.SHUT_WR)
-
-            sender = threading.Thread(target=send)
+            sender = threading.Thread(target=program.send_all, args=(client, [bytes([octet]) for octet in asked().octets]))
             sender.start()
             got = b"".join(iter(lambda: client.recv(65536), b""))
             sender.join()

@@ -47,12 +47,10 @@ def found_in(store, statement):
     return rows
 
 
-def received(client, size):
-    """The octets that come, at most so many, up to the end."""
-    came = b""
-    while len(came) < size and (piece := client.recv(size - len(came))):
-        came += piece
-    return came
+def changed(client, number):
+    """What comes back of a change of this number, up to a whole answer or the end."""
+    client.sendall(change(number))
+    return client.recv(len(BOUND), socket.MSG_WAITALL)
 
 
 class Stores(ProgramCase):
@@ -195,8 +193,7 @@ class Client(threading.Thread):
     def run(self):
         with contextlib.suppress(OSError), socket.create_connection(("127.0.0.1", self.port)) as client:
             while self.count < MOST and self.surprise is None:
-                client.sendall(change(self.count))
-                answer = received(client, len(BOUND))
+                answer = changed(client, self.count)
                 if len(answer) < len(BOUND):
                     return
                 self.surprise = None if answer == BOUND else answer
@@ -237,13 +234,11 @@ class Refused(Stores):
         """A second program on a file: it is refused, and the first one goes on."""
         with Server(1, self.store) as server:
             with socket.create_connection(("127.0.0.1", server.port)) as client:
-                client.sendall(change(0))
-                self.note("the first answer", BOUND, received(client, len(BOUND)))
+                self.note("the first answer", BOUND, changed(client, 0))
                 before = read(self.store)
                 self.all_refused("a second program", self.store, program.free_port())
                 self.note("the file, behind the second program", before, read(self.store))
-                client.sendall(change(1))
-                self.note("the second answer", BOUND, received(client, len(BOUND)))
+                self.note("the second answer", BOUND, changed(client, 1))
             server.ended(self, "the first program on a file")
         self.kept("the first program on a file", 2, 2)
 
@@ -273,9 +268,7 @@ class Refused(Stores):
 
     def test_without_leave(self):
         """A folder where nothing may be written, and a file that may only be read, for a user without rights of its own."""
-        more = {}
-        if os.getuid() == 0:
-            more = {"user": 65534, "group": 65534, "extra_groups": []}
+        more = {"user": 65534, "group": 65534, "extra_groups": []} if os.getuid() == 0 else {}
         own, closed = shutil.copy(program.PROGRAM, self.path("mud")), self.path("closed")
         run("replay", self.store, input=change(0))
         os.mkdir(closed)

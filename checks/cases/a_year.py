@@ -29,7 +29,7 @@ A_NAME = 64
 FOR_EVER = 4_294_967_295
 JUDGED, PIECE = 2_000_000, 10_000
 MINUTES, CYCLE = 15, 3
-LEFT_AFTER, PATIENCE = 60, 600
+SILENT, PATIENCE = 10, 600
 SLOW = b"GET /due HTTP/1.1\r\n\r\n"
 
 
@@ -288,7 +288,8 @@ class Clients:
             try:
                 deeds()
             except OSError as fault:
-                self.stopped.is_set() or self.faults.append(f"{deeds.__name__}: {fault}")
+                if not self.stopped.wait(1):
+                    self.faults.append(f"{deeds.__name__}: {fault}")
 
     def client(self):
         return socket.create_connection(("127.0.0.1", self.port), timeout=PATIENCE)
@@ -315,7 +316,7 @@ class Clients:
         with self.client() as client:
             self.found("stay silent", b"", client.recv(65536))
         with self.client() as client:
-            self.stopped.wait(LEFT_AFTER / 6)
+            self.stopped.wait(SILENT)
             self.done["stay silent and go"] += 1
         with self.client() as client:
             self.send_slowly(client, SLOW)
@@ -323,7 +324,7 @@ class Clients:
         with self.client() as client:
             self.send_slowly(client, SLOW[:-4])
             self.done["ask slowly and go"] += 1
-        self.stopped.wait(20)
+        self.stopped.wait(2 * SILENT)
 
     def send_slowly(self, client, octets):
         for number in range(len(octets)):

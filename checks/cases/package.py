@@ -15,7 +15,7 @@ COPIED = "Makefile VERSION CHANGELOG.md docs man contrib examples packaging".spl
 MOVED = {"fetch.conf": "etc/mud/fetch.conf", "mud.bash-completion": "usr/share/bash-completion/completions/mud", "mud.logrotate": "etc/logrotate.d/mud", "mud.sysusers": "usr/lib/sysusers.d/mud.conf"}
 UNITS = ["mud-fetch.service", "mud-fetch.timer", "mud-listen@.service", "mud-metrics.service", "mud-metrics.timer", "mud-rules.service", "mud-rules.timer", "mud.service"]
 EXPLAINED = tuple("I: gonnavir: " + tag for tag in ("hardening-no-fortify-functions", "package-supports-alternative-init-but-no-init.d-script",
-                                                    "spelling-error-in-binary"))
+                                                    "spelling-error-in-binary", "package-contains-documentation-outside-usr-share-doc [usr/share/mud/page/index.html]"))
 
 
 # in a root of its own over the machine's: a package of before, the store as a dynamic user leaves it, and then this

@@ -29,7 +29,9 @@ def svg_of(figure, name, words):
     pyplot.close(figure)
     text = octets.getvalue()
     text = text[text.index("<svg"):].replace(INK, "currentColor")
-    text = re.sub(r"<metadata>.*?</metadata>", "", text, flags=re.S)
+    # its style would be one of the whole page, and its size is the page's
+    text = re.sub(r"<metadata>.*?</metadata>|<style.*?</style>", "", text, flags=re.S)
+    text = re.sub(r'(<svg[^>]*?) width="[^"]*" height="[^"]*"', r"\1", text, count=1)
     text = re.sub(r'(\bid="|url\(#|href="#)', rf"\1{name}-", text)
     return re.sub(r"<svg ", f'<svg role="img" aria-label="{escaped(words)}" ', text, count=1)
 

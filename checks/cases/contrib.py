@@ -49,6 +49,8 @@ class Texts(Contrib):
                                   ("mud-listen@.service", "mud-listen@br0.service", os.path.abspath("contrib/listen")),
                                   ("mud-rules.service", "mud-rules.service", os.path.abspath("contrib/nft-rules")),
                                   ("mud-metrics.service", "mud-metrics.service", os.path.abspath("contrib/metrics")),
+                                  ("mud-capture@.service", "mud-capture@br0.service", os.path.abspath("contrib/capture")),
+                                  ("mud-day.service", "mud-day.service", os.path.abspath("contrib/mud-day")),
                                   ("mud-fetch.service", "mud-fetch.service", os.path.abspath("contrib/fetch"))):
             text = re.sub("^ExecStart=[^ \n]*", f"ExecStart={words}", texts.read("contrib/" + name), flags=re.M)
             # what loads rules needn't be there
@@ -58,7 +60,7 @@ class Texts(Contrib):
             self.note(f"verify {unit}, words", b"", ended.out + ended.errors)
             # the threshold is ten times the figure
             self.status(f"security {unit}", 0, "systemd-analyze", "security", "--offline=true", "--threshold=40", path)
-        for name in ("mud-rules.timer", "mud-metrics.timer", "mud-fetch.timer"):
+        for name in ("mud-rules.timer", "mud-metrics.timer", "mud-fetch.timer", "mud-day.timer"):
             timer = self.put(name, read("contrib/" + name))
             self.note(f"verify {name}", (0, b""), run("verify", "--man=no", timer, program="systemd-analyze")[::2])
 

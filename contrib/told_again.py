@@ -52,8 +52,10 @@ def steps_to(expiry, most):
 class Telling:
     """The requests that tell the listings, and the listings that they lead to."""
 
-    def __init__(self, listings, without_missing=False, now=None):
+    def __init__(self, listings, without_missing=False, now=None, kept=kept_files.octets_of):
         self.listings = dict(listings)
+        # what gives the octets of a digest, or None
+        self.kept = kept
         self.now = int(time.time()) if now is None else now
         self.requests = []
         # the digests whose octets aren't there, each with its URL and which of its files it is
@@ -120,7 +122,7 @@ class Telling:
         held = row["approved" if which == "approved" else "candidate"]
         if not held:
             return None, 0
-        octets = kept_files.octets_of(held["sha256"])
+        octets = self.kept(held["sha256"])
         if octets is None:
             self.missing.append((row["url"], which, held["sha256"]))
             return None, 0

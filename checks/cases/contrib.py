@@ -46,7 +46,8 @@ class Texts(Contrib):
     @needs("systemd-analyze")
     def test_units(self):
         for name, script in (("mud.service", PROGRAM), ("mud-listen@.service", "contrib/listen"), ("mud-rules.service", "contrib/nft-rules"),
-                             ("mud-metrics.service", "contrib/metrics"), ("mud-fetch.service", "contrib/fetch")):
+                             ("mud-metrics.service", "contrib/metrics"), ("mud-fetch.service", "contrib/fetch"),
+                             ("mud-capture@.service", "contrib/capture"), ("mud-day.service", "contrib/mud-day")):
             unit, words = name.replace("@", "@br0"), os.path.abspath(script)
             text = re.sub("^ExecStart=[^ \n]*", f"ExecStart={words}", texts.read("contrib/" + name), flags=re.M)
             # what loads rules needn't be there
@@ -55,7 +56,7 @@ class Texts(Contrib):
             self.note(f"verify {unit}, words", b"", ended.out + ended.errors)
             # the threshold is ten times the figure
             self.status(f"security {unit}", 0, "systemd-analyze", "security", "--offline=true", "--threshold=40", path)
-        for name in ("mud-rules.timer", "mud-metrics.timer", "mud-fetch.timer"):
+        for name in ("mud-rules.timer", "mud-metrics.timer", "mud-fetch.timer", "mud-day.timer"):
             timer = self.put(name, read("contrib/" + name))
             self.note(f"verify {name}", (0, b""), run("verify", "--man=no", timer, program="systemd-analyze")[::2])
 

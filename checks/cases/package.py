@@ -13,7 +13,7 @@ from checks.program import read, run
 MESSAGE = "examples/dhcp/dhclient-dnsmasq-01-discover.bin"
 COPIED = "Makefile VERSION CHANGELOG.md docs man contrib examples packaging".split()
 MOVED = {"fetch.conf": "etc/mud/fetch.conf", "mud.bash-completion": "usr/share/bash-completion/completions/mud", "mud.logrotate": "etc/logrotate.d/mud", "mud.sysusers": "usr/lib/sysusers.d/mud.conf"}
-UNITS = ["mud-fetch.service", "mud-fetch.timer", "mud-listen@.service", "mud-metrics.service", "mud-metrics.timer", "mud-rules.service", "mud-rules.timer", "mud.service"]
+UNITS = ["mud-capture@.service", "mud-day.service", "mud-day.timer", "mud-fetch.service", "mud-fetch.timer", "mud-listen@.service", "mud-metrics.service", "mud-metrics.timer", "mud-rules.service", "mud-rules.timer", "mud.service"]
 EXPLAINED = tuple("I: gonnavir: " + tag for tag in ("hardening-no-fortify-functions", "package-supports-alternative-init-but-no-init.d-script",
                                                     "spelling-error-in-binary", "package-contains-documentation-outside-usr-share-doc [usr/share/mud/page/index.html]"))
 
@@ -112,7 +112,7 @@ class Package(ProgramCase):
         wanted += [(f"{share}/{name}", mode) for name, mode in of_contrib()] + of_examples(share)
         self.note("files", sorted(wanted), files_below(self.path("installed")))
         units = "".join(read(f"{share}/{unit}", self.path("installed")).decode() for unit in UNITS)
-        self.note("the units' programs", ["/usr/share/mud/fetch", "/usr/share/mud/listen %i", "/usr/share/mud/metrics /var/lib/prometheus/node-exporter/mud.prom",
+        self.note("the units' programs", ["/usr/share/mud/capture %i", "/usr/share/mud/mud-day --in %t/mud-day", "/usr/share/mud/fetch", "/usr/share/mud/listen %i", "/usr/share/mud/metrics /var/lib/prometheus/node-exporter/mud.prom",
                                           "/usr/share/mud/nft-rules --load", "/usr/bin/mud serve /var/lib/mud/mud.db ${PORT} 1000000"],
                   re.findall("^ExecStart=(.*)", units, re.M))
         self.make("copy", "uninstall", "PREFIX=/usr", folder)

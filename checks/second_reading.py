@@ -482,6 +482,10 @@ CLASSES = [DNS, NTP, "urn:example:hub"]
 PREFIXES = [ipaddress.ip_network(p) for p in
             ["192.0.2.0/24", "192.0.2.8/29", "198.51.100.0/24", "0.0.0.0/0", "2001:db8::/32", "2001:db8::4/126"]]
 PORTS = [53, 80, 123, 443, 50000, 50001]
+KINDS = ["url", "url", "lease heard", "lease", "lease", "lease ended", "move", "remove", "hold", "release", "file", "file", "file", "verdict", "verdict",
+         "verdict", "revoke", "bind", "bind", "unbind", "locals", "name", "name", "name", "list", *["packets"] * 7, "why", "why"]
+# how often what is seldom asked of a Thing is asked of the last one
+RARE = {"remove": 0.8, "hold": 0.6}
 SELECTORS = ["manufacturer", "same-manufacturer", "model", "local-networks", "controller", "my-controller"]
 
 
@@ -604,55 +608,59 @@ class Maker:
     def request(self, now):
         """Method, target, body, and what is answered: the status, the body, and whether the moment rises."""
         pick, desk = self.random.choice, self.manager
-        kind = pick(["url", "url", "lease heard", "lease", "lease", "lease ended", "move", "remove", "hold", "release", "file",
-                     "file", "file", "verdict", "verdict", "verdict", "revoke", "bind", "bind", "unbind", "locals", "name",
-                     "name", "name", "list", "packet", "packet", "packet", "packet", "packet", "packet", "packet", "why", "why"])
-        mac, url, address = pick(MACS), pick(URLS), pick(ADDRESSES)
-        seconds = pick([1, 5, 60, 600, 86400, 2**32 - 1])
+        kind = pick(KINDS)
+        mac, url, address, seconds = pick(MACS), pick(URLS), pick(ADDRESSES), pick([1, 5, 60, 600, 86400, 2**32 - 1])
+        if kind in RARE and self.maybe(RARE[kind]):
+            mac = MACS[-1]
+        plain = {"lease ended": ("DELETE", "/leases", {"address": str(address)}, lambda: desk.end_lease(address)),
+                 "move": ("POST", "/things", {"mac": mac, "url": url}, lambda: desk.move(mac, url)),
+                 "remove": ("DELETE", "/things", {"mac": mac}, lambda: desk.remove(mac)),
+                 "hold": ("POST", "/holds", {"mac": mac}, lambda: desk.hold(mac, True)),
+                 "release": ("DELETE", "/holds", {"mac": mac}, lambda: desk.hold(mac, False))}
+        if kind in plain:
+            method, target, body, work = plain[kind]
+            return method, target, body, lambda: {"result": work()}
+        if kind in ("url", "lease heard", "lease"):
+            return self.thing_request(kind, mac, url, address, seconds, now)
+        if kind in ("file", "verdict", "revoke"):
+            return self.file_request(kind, url, now)
+        if kind in ("bind", "unbind", "locals", "name"):
+            return self.binding_request(kind, url, address, now)
+        if kind == "list":
+            name = pick(["things", "files", "classes", "locals", "names", "due"])
+            return "GET", "/" + name, b"", lambda: {name: desk.listing(name, now)}
+        frame = self.frame()
+        return "POST", "/" + kind, frame, (lambda: desk.why(frame, now)) if kind == "why" else (lambda: self.packet(frame, now))
+
+    def thing_request(self, kind, mac, url, address, seconds, now):
+        pick, desk = self.random.choice, self.manager
         if kind == "url":
             text = url.encode() + pick([b"", b" x", b"\0"])
             body = session.dhcp_message("01", mac, b"\x35\x01\x03\xa1" + bytes([len(text)]) + text)
             return "POST", "/hear/dhcp", body, lambda: {"heard": "url", "mac": mac, "result": desk.announce(mac, url), "url": url}
-        if kind == "lease heard":
-            while address.version == 6:
-                address = pick(ADDRESSES)
-            body = session.acknowledgement(mac, address, seconds)
-            return "POST", "/hear/dhcp", body, lambda: dict(
-                zip(("result", "until"), desk.lease(mac, address, seconds, now, True)), address=str(address), heard="lease", mac=mac)
         if kind == "lease":
             return "POST", "/leases", {"mac": mac, "address": str(address), "seconds": seconds}, lambda: dict(
                 zip(("result", "until"), desk.lease(mac, address, seconds, now, False)))
-        if kind == "lease ended":
-            return "DELETE", "/leases", {"address": str(address)}, lambda: {"result": desk.end_lease(address)}
-        if kind == "move":
-            return "POST", "/things", {"mac": mac, "url": url}, lambda: {"result": desk.move(mac, url)}
-        if kind == "remove":
-            if self.maybe(0.8):
-                mac = MACS[-1]
-            return "DELETE", "/things", {"mac": mac}, lambda: {"result": desk.remove(mac)}
-        if kind in ("hold", "release"):
-            if kind == "hold" and self.maybe(0.6):
-                mac = MACS[-1]
-            return ("POST" if kind == "hold" else "DELETE"), "/holds", {"mac": mac}, lambda: {
-                "result": desk.hold(mac, kind == "hold")}
+        while address.version == 6:
+            address = pick(ADDRESSES)
+        return "POST", "/hear/dhcp", session.acknowledgement(mac, address, seconds), lambda: dict(
+            zip(("result", "until"), desk.lease(mac, address, seconds, now, True)), address=str(address), heard="lease", mac=mac)
+
+    def file_request(self, kind, url, now):
+        pick, desk = self.random.choice, self.manager
         if kind == "file":
             made = pick(self.made)
             return "POST", "/files", made["octets"], lambda: {"result": desk.take_file(made, now), "url": made["url"]}
-        if kind == "verdict":
-            row = desk.files.get(url)
-            made = row["candidate"]["file"] if row and row["candidate"] and self.maybe(0.9) else pick(self.made)
-            verdict = pick(["verified", "waived", "waived", "waived", "failed"])
-            return "POST", "/verdicts", {"url": made["url"], "sha256": made["sha256"], "verdict": verdict}, lambda: {
-                "result": desk.verdict_on(made["url"], made["sha256"], verdict)}
         if kind == "revoke":
-            if self.maybe(0.7):
-                return self.request(now)
-            return "POST", "/revokes", {"url": url}, lambda: {"result": desk.revoke(url)}
-        if kind in ("bind", "unbind"):
-            which = ("class", pick(CLASSES)) if self.maybe(0.6) else ("my-controller-of", url)
-            work = desk.bind if kind == "bind" else desk.unbind
-            return ("POST" if kind == "bind" else "DELETE"), "/classes", {which[0]: which[1], "address": str(address)}, lambda: {
-                "result": work(which, address)}
+            return self.request(now) if self.maybe(0.7) else ("POST", "/revokes", {"url": url}, lambda: {"result": desk.revoke(url)})
+        row = desk.files.get(url)
+        made = row["candidate"]["file"] if row and row["candidate"] and self.maybe(0.9) else pick(self.made)
+        verdict = pick(["verified", "waived", "waived", "waived", "failed"])
+        return "POST", "/verdicts", {"url": made["url"], "sha256": made["sha256"], "verdict": verdict}, lambda: {
+            "result": desk.verdict_on(made["url"], made["sha256"], verdict)}
+
+    def binding_request(self, kind, url, address, now):
+        pick, desk = self.random.choice, self.manager
         if kind == "locals":
             prefixes = self.random.sample(PREFIXES, self.random.randrange(4))
             return "PUT", "/locals", {"prefixes": [str(p) for p in prefixes]}, lambda: {"result": desk.set_locals(prefixes)}
@@ -660,13 +668,9 @@ class Maker:
             name, ttl = pick(NAMES), pick([1, 30, 600, 86400])
             return "POST", "/names", {"name": name, "address": str(address), "ttl": ttl}, lambda: dict(
                 zip(("result", "until"), desk.observe(name, address, ttl, now)))
-        if kind == "list":
-            name = pick(["things", "files", "classes", "locals", "names", "due"])
-            return "GET", "/" + name, b"", lambda: {name: desk.listing(name, now)}
-        frame = self.frame()
-        if kind == "why":
-            return "POST", "/why", frame, lambda: desk.why(frame, now)
-        return "POST", "/packets", frame, lambda: self.packet(frame, now)
+        which = ("class", pick(CLASSES)) if self.maybe(0.6) else ("my-controller-of", url)
+        work = desk.bind if kind == "bind" else desk.unbind
+        return ("POST" if kind == "bind" else "DELETE"), "/classes", {which[0]: which[1], "address": str(address)}, lambda: {"result": work(which, address)}
 
     def packet(self, frame, now):
         text, _, noted = self.manager.judge(frame, now)

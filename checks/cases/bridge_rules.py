@@ -358,6 +358,20 @@ class Bridge(ProgramCase):
             less = verdict == "pass from=accept:2"
             self.note(f"without connections, {name}: {verdict}", verdict.startswith("pass") and not less, arrives)
 
+    def test_full(self):
+        """Of as many Things as a store may have, a look that finds nothing new takes a moment, and so does a hold."""
+        self.approve(usage_file(URL[THING]))
+        with self.console:
+            for number in range(510):
+                self.console.tell("POST", "/hear/dhcp", announcement(f"02:00:00:01:{number >> 8:02x}:{number & 255:02x}", URL[THING]))
+        self.note("the rules", (0, ""), self.load())
+        chains = subprocess.run(["nft", "list", "chains", "bridge"], capture_output=True, text=True, check=True).stdout
+        self.note("a table of each", 512, chains.count("table bridge mud_"))
+        began = os.times()
+        self.note("a look", (0, ""), self.load())
+        took = sum(os.times()[2:4]) - sum(began[2:4])
+        self.holds("its seconds of processor", took <= 5, f"{took:.1f} s")
+
     def test_no_moment_without(self):
         for mac in (THING, OTHER):
             self.approve(usage_file(URL[mac]))

@@ -186,6 +186,7 @@ class Pages(OnSite):
     def test_waiting(self):
         """While the console serves a client that says nothing sixteen requests wait, and the next one is refused."""
         self.opened()
+        self.site.asked("POST", "/api/hear/dhcp", read(MESSAGE))
         silent = subprocess.Popen(self.site.within(["python3", "-c", SILENT]), stdin=subprocess.PIPE, stdout=subprocess.PIPE)
         silent.stdout.readline()
         words = self.site.within(["curl", "-s", "-u", "anna:a secret of hers", f"http://127.0.0.1:{SITE}/api/due"], "nobody")
@@ -196,6 +197,7 @@ class Pages(OnSite):
         self.note("those that waited", [b'{"due":[]}'] * 16, [one.communicate(timeout=60)[0] for one in waiting])
         self.note("the log", [("429", "")], [(line["status"], line["user"]) for line in self.site.log("refused.log")])
         self.note("behind them", 200, self.site.asked("GET", "/api/due")[0])
+        self.note("the store", [False], [thing["held"] for thing in self.site.told("/things")["things"]])
 
 
 BULB = "https://lighting.example.com/lightbulb2000"

@@ -1,8 +1,9 @@
 """Keeps the built program at work for a year of moments, and looks at what grows: the figures of month 12 are at most 1.1
 times those of month 2.
 
-A replay of some 740,000 requests over a store in a file, in which Things, classes and files stand already, since what
-is kept in memory is of another size behind an opening; behind it twelve runs each of snoop and import over that store; a judge of ten million packets; and a serve of a quarter of an hour, of which minute 15 stands beside minute 3.
+A replay of some 740,000 requests over a store in a file that has Things, a class and files, as a manager finds it that
+is started anew; behind it twelve runs each of snoop and import over that store; a judge of ten million packets; and a
+serve of a quarter of an hour, of which minute 15 stands beside minute 3.
 The input stops at each month's end, and is measured when all answers have come: the memory that is resident and the
 most so far, the octets of the store's file, the most that its log had in the month, and the instructions of an opening
 of a copy of both (without valgrind the least of five times). Each month's figures are printed.

@@ -149,7 +149,7 @@ def judged(month):
 
 def requests_of(month):
     """The requests of a month in their order, and how many these are."""
-    made = list(beginning()) if month == 0 else list(approved(begin_of(month) + 4 * DAY, usage_file(0, month), 0))
+    made = list(approved(begin_of(month) + 4 * DAY, usage_file(0, month), 0)) if month else []
     for kind in (renewals, changed_names, changed_classes, judged):
         made += kind(month)
     made.sort(key=lambda one: one[0])

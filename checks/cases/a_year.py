@@ -1,8 +1,9 @@
 """Keeps the built program at work for a year of moments, and looks at what grows: the figures of month 12 are at most 1.1
 times those of month 2.
 
-A replay of some 740,000 requests over a store in a file, behind it twelve runs each of snoop and import over the same
-store; a judge of ten million packets; and a serve of a quarter of an hour, of which minute 15 stands beside minute 3.
+A replay of some 740,000 requests over a store in a file that has Things, a class and files, as a manager finds it that
+is started anew; behind it twelve runs each of snoop and import over that store; a judge of ten million packets; and a
+serve of a quarter of an hour, of which minute 15 stands beside minute 3.
 The input stops at each month's end, and is measured when all answers have come: the memory that is resident and the
 most so far, the octets of the store's file, the most that its log had in the month, and the instructions of an opening
 of a copy of both (without valgrind the least of five times). Each month's figures are printed.
@@ -22,7 +23,7 @@ import time
 from bench import measure
 from checks import year
 from checks.case import ProgramCase, there_is
-from checks.program import PROGRAM, Server, answers, clear_store, copy_store, request, run
+from checks.program import PROGRAM, Server, answers, clear_store, copy_store, request
 
 GROWTH = 1.1
 A_NAME = 64
@@ -140,6 +141,12 @@ def written_anew(store):
     return os.path.getsize(store)
 
 
+def worked(*words, octets=b""):
+    """The status of a run of the program, and what it wrote, however long it takes."""
+    ran = subprocess.run([PROGRAM, *words], input=octets, stdout=subprocess.PIPE, check=False)
+    return ran.returncode, ran.stdout
+
+
 def memory(process):
     resident, most = measure.memory_of(process)
     return {"kB_resident": resident, "kB_at_most": most}
@@ -149,8 +156,8 @@ class AYear(ProgramCase):
     def made_store(self, name, *requests):
         """A store that these requests make, each of which is answered with 200."""
         octets = b"".join(request for _, request in itertools.chain(*requests))
-        ended = run("replay", self.path(name), input=octets)
-        self.note(f"{name}: refused requests", set(), {it.status for it in answers(ended.out)} - {200})
+        _, written = worked("replay", self.path(name), octets=octets)
+        self.note(f"{name}: refused requests", set(), {it.status for it in answers(written)} - {200})
         return self.path(name)
 
     def kept(self, what, store, log):
@@ -158,17 +165,17 @@ class AYear(ProgramCase):
         copy = store + "-copy"
         copy_store(store, copy)
         kinds = {"thing": year.THINGS, "name": year.NAMES, "class": year.CLASSES, "local": year.LOCALS}
-        lines = b"".join(run("report", copy, kind).out for kind in ("things", "names", "classes", "locals"))
+        lines = b"".join(worked("report", copy, kind)[1] for kind in ("things", "names", "classes", "locals"))
         words = [line.split()[0].decode() for line in lines.splitlines()]
         self.note(f"{what}: what the store has", kinds, {kind: words.count(kind) for kind in kinds})
         figures = {"octets_of_the_file": os.path.getsize(store), "octets_of_the_log": log.taken(), **opening(store, copy)}
-        names, figures["octets_written_anew"] = run("report", copy, "names").out, written_anew(copy)
-        self.note(f"{what}: the names of the file that is written anew", names, run("report", copy, "names").out)
+        names, figures["octets_written_anew"] = worked("report", copy, "names"), written_anew(copy)
+        self.note(f"{what}: the names of the file that is written anew", names, worked("report", copy, "names"))
         clear_store(copy)
         return figures
 
     def test_store(self):
-        store = self.path("year.db")
+        store = self.made_store("year.db", year.beginning())
         with Log(store) as log:
             self.replayed(store, log)
             self.snooped(store, log)
@@ -195,7 +202,6 @@ class AYear(ProgramCase):
             come += got.count(b"HTTP/1.1 ", max(len(got) - len(piece) - 8, 0))
         writer.join()
         renewed, packets = (octets.count(b"POST %s HTTP/1.1" % target) for target in (b"/leases", b"/packets"))
-        renewed -= year.THINGS if what.endswith(" 1") else 0
         self.note(f"{what}: answers with 200", count, got.count(b"HTTP/1.1 200 OK\r\n"))
         self.note(f"{what}: packets that pass", packets, got.count(b'{"verdict":"pass '))
         self.note(f"{what}: renewals", renewed, got.count(b'"renewed"'))
@@ -203,9 +209,9 @@ class AYear(ProgramCase):
     def snooped(self, store, log):
         figures = Figures("snoop")
         for month in range(year.MONTHS):
-            ended = run("snoop", store, input=year.dns_answers(year.MONTHS + month))
+            status, lines = worked("snoop", store, octets=year.dns_answers(year.MONTHS + month))
             what = f"snoop, month {month + 1}"
-            self.note(f"{what}: status and names", (0, year.NAMES), (ended.status, ended.out.count(b" new\n")))
+            self.note(f"{what}: status and names", (0, year.NAMES), (status, lines.count(b" new\n")))
             figures.add(**self.kept(what, store, log))
         figures.compare(self, 2, 12, 10 * year.NAMES)
 
@@ -217,9 +223,9 @@ class AYear(ProgramCase):
                 os.remove(os.path.join(folder, name))
             for name, octets in year.renewed_files(year.MONTHS + month).items():
                 self.put(os.path.join(folder, name), octets)
-            ended = run("import", store, folder)
+            status, lines = worked("import", store, folder)
             what = f"import, month {month + 1}"
-            self.note(f"{what}: status and files", (0, year.URLS), (ended.status, ended.out.count(b" new\n")))
+            self.note(f"{what}: status and files", (0, year.URLS), (status, lines.count(b" new\n")))
             figures.add(**self.kept(what, store, log))
         figures.compare(self, 2, 12)
 

@@ -87,6 +87,8 @@ class Telling:
     def __init__(self, copy, found, first):
         self.copy, self.found, self.first = copy, found, first
         self.base = told_again.Telling(copy.listings, True, first, copy.files.get)
+        # nothing is told later than that, as each packet is judged as of the last change at the least
+        self.base.requests = [one._replace(moment=min(one.moment, first)) for one in self.base.requests]
         self.known = {row["mac"] for row in copy.listings["things"]}
         self.announced, self.announcements, self.leases = {}, [], []
         self.hear()

@@ -1,0 +1,351 @@
+"""Looks at contrib/mud-day, mud-report and capture, on the day that checks/days.py makes.
+
+What is wanted is computed here from the program's own lines ('lines' of the folder, and runs of 'judge' and 'tally' by the
+commands that the folder names), and from what was made. The page is looked at in Chromium.
+"""
+import collections
+import hashlib
+import html.parser
+import json
+import os
+import re
+import resource
+import shutil
+import subprocess
+import time
+import unittest
+
+from checks import days, program
+from checks.case import ProgramCase, needs, there_is
+from checks.days import AT, BEFORE, CAMERA, CLOUD, DATE, HOUR, HUB, LAPTOP, LAMP, OUTSIDE, PLUG, SENSOR, START, URLS, VIDEO, WEB
+from checks.program import Server, capture, read, run
+
+LIBRARIES = "/usr/lib/python3/dist-packages"
+HOLDER = "<b>bert'&\""
+KINDS = ("passed", "dropped", "begun", "unknown", "unmanaged", "link", "unreadable")
+
+
+def libraries():
+    """Whether jinja2 and matplotlib are there."""
+    return all(os.path.isdir(f"{LIBRARIES}/{name}") for name in ("jinja2", "matplotlib"))
+
+
+def digest(octets):
+    return hashlib.sha256(octets).hexdigest()
+
+
+@needs("curl", "sha256sum")
+class OfDays(ProgramCase):
+    """A case with the made site: its copy of the day's beginning, its captures and its log of changes."""
+
+    cut = None
+
+    def setUp(self):
+        super().setUp()
+        os.mkdir(self.path("files"))
+        with Server(1000, self.path("live.db")) as server:
+            days.tell_site(server.port, self.path("files"))
+            self.environment = days.environment(self.folder, server.port)
+            self.live = self.listed(server.port)
+            self.note("the first run, which keeps a copy", (0, b"", b""), self.day()[:3])
+            self.listed_after = self.listed(server.port)
+        copies = self.path("days/copies")
+        os.rename(f"{copies}/{os.listdir(copies)[0]}", f"{copies}/{DATE}.requests.gz")
+        days.Day().write(self.path("captures"), self.cut)
+        self.put("changes.log", "".join(self.changes()).encode())
+
+    def changes(self):
+        verdict = json.dumps({"url": URLS[CAMERA], "sha256": digest(days.FILES[CAMERA]), "verdict": "waived"})
+        yield days.log_line(START - 9 * 24 * HOUR, "anna", "POST", "/verdicts", verdict)
+        yield days.log_line(START + 15 * HOUR, HOLDER, "POST", "/holds", json.dumps({"mac": CAMERA}))
+        yield days.log_line(START + 16 * HOUR, "anna", "DELETE", "/holds", json.dumps({"mac": CAMERA}))
+
+    @staticmethod
+    def listed(port):
+        return [run("-s", f"http://127.0.0.1:{port}/{name}", program="curl").out for name in ("things", "files", "classes", "locals", "names", "due")]
+
+    def day(self, *words, **more):
+        ended = run("--in", self.folder, *words, program="contrib/mud-day", env={**self.environment, **more})
+        return ended.status, ended.out, ended.errors, ended
+
+    def of(self, name, date=DATE):
+        return read(name, self.path("days/" + date))
+
+    def told(self, date=DATE):
+        return json.loads(self.of("day.json", date))
+
+    def thing(self, mac):
+        return next(one for one in self.told()["things"] if one["mac"] == mac)
+
+
+class Row:
+    """A line of the folder: the packet's number and second, the verdict, and its ends."""
+
+    def __init__(self, line):
+        number, second, verdict, rest = re.fullmatch(r"(\d+) (\d+) ((?:pass|drop) (?:unmanaged|link|unreadable \w+|(?:(?:from|to)=\S+ ?)+?)) ?((?:packet|link|unreadable|- -).*)", line).groups()
+        self.number, self.second, self.verdict = int(number), int(second), verdict.strip()
+        self.parts = rest.split()
+        self.tcp = self.parts[4:5] == ["tcp"]
+        self.ends = tuple(self.parts[1:3])
+
+    def has(self, *texts):
+        return all(text in self.parts for text in texts)
+
+
+class Made(OfDays):
+    """What the folder says."""
+
+    def setUp(self):
+        super().setUp()
+        self.ended = self.day(DATE)
+        self.assertEqual(self.ended[0], 0, self.ended[2].decode())
+        self.rows = [Row(line) for line in self.of("lines").decode().splitlines()]
+
+    def verdicts(self, *texts, since=0, until=24 * HOUR):
+        return collections.Counter(row.verdict for row in self.rows if row.has(*texts) and START + since <= row.second < START + until)
+
+    def test_verdicts(self):
+        """Each part of the made day has the verdict that it is made for."""
+        made = days.Day().packets
+        self.note("lines", sum(START <= second < START + 24 * HOUR for second, _ in made), len(self.rows))
+        self.note("a name of a minute under a connection of an hour", {"pass to=accept:2": 60, "pass from=accept:2": 2}, self.verdicts(VIDEO))
+        self.note("a connection of the evening before", {"pass from=accept:1": 48}, self.verdicts(CLOUD))
+        self.note("one of the evening before last", {"drop from=drop:no-match": 3}, self.verdicts(HUB))
+        self.note("a scan", {"drop to=drop:no-match": 100}, self.verdicts(OUTSIDE))
+        self.note("to the lamp's address, before noon", {"pass from=accept:2 to=accept:1": 3, "pass from=accept:1 to=accept:2": 1}, self.verdicts(AT[LAMP], AT[SENSOR], until=12 * HOUR))
+        self.note("and behind noon", {"drop from=drop:no-match to=drop:no-file": 1}, self.verdicts(AT[PLUG], AT[SENSOR], since=12 * HOUR))
+        self.note("while the lease moves the camera's goes on", {"pass from=accept:1": 4}, self.verdicts(CLOUD, since=11 * HOUR, until=13 * HOUR))
+
+    def test_kinds(self):
+        """The day's numbers, from the lines and from what was made."""
+        wanted = collections.Counter()
+        for row in self.rows:
+            kind = {"pass u": "unmanaged", "pass l": "link"}.get(row.verdict[:6], "passed" if row.verdict[:4] == "pass" else "dropped")
+            kind = "begun" if row.has(HUB) else "unknown" if row.has("192.0.2.40") else kind
+            wanted[(row.second - START) // HOUR, kind] += 1
+        told = self.told()
+        got = {(hour, kind): row[kind] for hour, row in enumerate(told["hours"]) for kind in KINDS if row[kind]}
+        self.note("by hour", dict(wanted), got)
+        self.note("hours", [f"{hour:02}:00" for hour in range(24)], [row["time"] for row in told["hours"]])
+        self.note("in all", {kind: sum(packets for (_, one), packets in wanted.items() if one == kind) for kind in KINDS}, told["totals"])
+        self.note("begun before the capture", [("from", HUB, "8883", 3)], [(one["side"], one["peer"], one["port"], one["packets"]) for one in self.thing(SENSOR)["begun"]])
+        self.note("not known yet", (1, START + 12 * HOUR), (self.thing(PLUG)["unknown"], told["announced"][PLUG]))
+        self.note("senders that are no Things", {LAPTOP: 25, days.ROUTER: 1}, {one["mac"]: one["packets"] for one in told["senders"]})
+
+    def test_entries(self):
+        """How often each entry decided, and those that never did."""
+        for mac in (CAMERA, SENSOR, LAMP):
+            wanted = collections.Counter()
+            for row in self.rows:
+                for side, number in re.findall(r"(from|to)=accept:(\d+)", row.verdict):
+                    if AT[mac] == row.ends[0 if side == "from" else 1] and (mac != LAMP or row.second < START + 12 * HOUR):
+                        wanted[side, int(number)] += 1
+            thing = self.thing(mac)
+            self.note(f"entries of {URLS[mac]}", dict(wanted), {(one["side"], one["number"]): one["packets"] for one in thing["entries"] if one["packets"]})
+            said = json.loads(run("--json", self.put("file.json", days.FILES[mac]), program="contrib/explain", env=self.environment).out)
+            self.note(f"words of {URLS[mac]}", [one["words"] for side in ("from", "to") for one in said[side]], [one["words"] for one in thing["entries"]])
+        self.note("who gave the verdict", ("anna", "waived"), (self.thing(CAMERA)["file"]["by"], self.thing(CAMERA)["file"]["verdict"]))
+        self.note("changes that touch it", [HOLDER, "anna"], [row["user"] for row in self.thing(CAMERA)["changes"]])
+
+    def test_denied(self):
+        """What was denied, and that the entry which is named lets it pass, by the program."""
+        denied = {(one["peer"], one["port"]): one for one in self.thing(CAMERA)["denied"]}
+        wanted = {(WEB, "80"): 5, **{(OUTSIDE, str(port)): 1 for port in range(1, 101)}}
+        self.note("of the camera", wanted, {key: one["packets"] for key, one in denied.items()})
+        web = denied[WEB, "80"]
+        self.note("first and last", (START + 14 * HOUR + 1200, START + 14 * HOUR + 1204), (web["first"], web["last"]))
+        for key, text in (((WEB, "80"), WEB), ((OUTSIDE, "7"), OUTSIDE)):
+            self.note(f"with the entry for {key} it passes", True, self.passes(CAMERA, denied[key], text, key[1]))
+
+    def passes(self, mac, one, peer, port):
+        """Whether what was denied passes by the day's store, with the approved file that has the entry, too."""
+        file = json.loads(days.FILES[mac])
+        acl = next(acl for acl in file["ietf-access-control-list:acls"]["acl"] if acl["name"].startswith(one["side"]))
+        acl["aces"]["ace"].append(one["remedy"]["ace"])
+        file["ietf-mud:mud"]["last-update"] = "2026-10-02T00:00:00+00:00"
+        octets, moment = json.dumps(file).encode(), self.told()["first"]
+        verdict = json.dumps({"url": URLS[mac], "sha256": digest(octets), "verdict": "waived"})
+        store, requests = self.path("with.db"), self.requests("state-1")
+        program.clear_store(store)
+        asked = requests + program.request("POST", "/files", octets, moment) + program.request("POST", "/verdicts", verdict, moment)
+        self.assertEqual(run("replay", store, input=asked).status, 0)
+        lines = [Row(line + " " + rest) for line, rest in zip(run("judge", store, input=self.joined()).out.decode().splitlines(), self.framed())]
+        found = [row.verdict[:4] for row in lines if row.has(peer, port, AT[mac]) and row.second >= START]
+        return bool(found) and set(found) == {"pass"}
+
+    def requests(self, name):
+        return subprocess.run(["zcat", os.path.join(self.path("days"), DATE, name + ".requests.gz")], stdout=subprocess.PIPE, check=True).stdout
+
+    def joined(self):
+        return self.day("--joined", DATE)[1]
+
+    def framed(self):
+        return [line.split(" ", 2)[2] for line in run("frames", input=self.joined()).out.decode().splitlines()]
+
+    def test_tally(self):
+        """The counts are those of 'tally', and 47 hours give 47."""
+        store = self.path("tally.db")
+        self.assertEqual(run("replay", store, input=self.requests("state-1")).status, 0)
+        lines = run("tally", store, input=self.joined()).out.decode().splitlines()
+        self.note("hours", 47, sum(line.startswith("hour ") for line in lines))
+        # where no lease moves in the midst: up to noon
+        wanted, hour = collections.Counter(), None
+        for line in lines:
+            words = line.split()
+            hour = int(words[1]) if words[0] == "hour" else hour
+            if words[0] == "count" and START // HOUR <= hour < START // HOUR + 12:
+                wanted[words[1], words[2], words[3]] += int(words[4])
+        got = collections.Counter()
+        for one in self.all_packets():
+            if one["second"] < START + 12 * HOUR:
+                for end in one["things"]:
+                    got[end["mac"], end["side"], end["ruling"]] += 1
+        self.note("counts up to noon", dict(wanted), dict(got))
+        whole = collections.Counter()
+        for one in self.all_packets():
+            for end in one["things"]:
+                if not (end["mac"] == PLUG and one["second"] < START + 12 * HOUR):
+                    whole[end["mac"], end["side"], end["ruling"]] += 1
+        self.note("of the whole day", dict(whole), {(thing["mac"], one["side"], one["ruling"]): one["packets"] for thing in self.told()["things"] for one in thing["rulings"]})
+
+    def all_packets(self):
+        """Each packet as an object."""
+        if not os.path.exists(self.path(f"days/{DATE}/packets.jsonl")):
+            self.assertEqual(self.day("--all", DATE)[0], 0)
+        return [json.loads(line) for line in self.of("packets.jsonl").splitlines()]
+
+    def test_dropped(self):
+        """An object for each packet that was dropped, with the Thing's address and URL and the local time."""
+        rows = [json.loads(line) for line in self.of("dropped.jsonl").splitlines()]
+        self.note("numbers", [row.number for row in self.rows if row.verdict.startswith("drop")], [one["number"] for one in rows])
+        first = next(one for one in rows if one.get("destination") == WEB and one["things"][0]["mac"] == CAMERA)
+        self.note("one", {"second": START + 14 * HOUR + 1200, "time": "2026-11-30T14:20:00+0100", "verdict": "drop from=drop:no-match", "source": AT[CAMERA], "destination": WEB,
+                          "protocol": 6, "layer": "tcp", "ports": [50010, 80], "flags": 2, "begun-before": False, "number": first["number"],
+                          "things": [{"side": "from", "mac": CAMERA, "url": URLS[CAMERA], "ruling": "drop:no-match", "not-known-yet": False}]}, first)
+
+    def test_commands(self):
+        """The commands that the folder names make its files again."""
+        os.mkdir(self.path("again"))
+        os.mkdir(self.path("bin"))
+        os.symlink(program.PROGRAM, self.path("bin/mud"))
+        os.symlink(os.path.abspath("contrib/mud-day"), self.path("bin/mud-day"))
+        text = self.of("commands").decode().replace("DAY/", self.path(f"days/{DATE}/")).replace("mud-day --verify", "mud-day --in . --verify")
+        environment = {**self.environment, "PATH": self.path("bin") + ":" + os.environ["PATH"]}
+        ended = run("-e", "-c", text, program="sh", cwd=self.path("again"), env=environment)
+        self.note("status", (0, b""), (ended.status, ended.errors))
+        self.note("its own comparison", f"{self.path('days')}/{DATE}: all files come out the same\n", ended.out.decode())
+        names = [name for name in os.listdir(self.path("days/" + DATE)) if name.startswith(("report-", "export-")) and name != "report-due"] + ["lines"]
+        self.note("files that are made one by one", 14, len(names) + (len(names) < 10))  # five reports, four lists, the lines
+        for name in names:
+            self.note(name, self.of(name), read(name, self.path("again")))
+
+    def test_evidence(self):
+        """The sums hold, a change is seen, and so is a capture that went."""
+        self.note("sha256sum", 0, run("-c", "--quiet", "SHA256SUMS", program="sha256sum", cwd=self.path("days/" + DATE)).status)
+        self.note("verify", 0, self.day("--verify", DATE)[0])
+        with open(self.path(f"days/{DATE}/lines"), "ab") as file:
+            file.write(b"\n")
+        ended = self.day("--verify", DATE)
+        self.holds("a line more", ended[0] == 1 and b"lines was changed" in ended[2] and b"lines comes out otherwise" in ended[2], ended[2])
+        os.unlink(self.path(f"captures/{sorted(os.listdir(self.path('captures')))[0]}"))
+        ended = self.day("--verify", DATE)
+        self.holds("a capture that is gone", ended[0] == 1 and b"1 of 47 captures are gone" in ended[2], ended[2])
+        self.note("what the served store lists is as before", self.live, self.listed_after)
+
+
+class Bad(OfDays):
+    """What is wrong with the input."""
+
+    cut = 17
+
+    def remarks(self, *words):
+        ended = self.day(DATE)
+        self.note("status", 0, ended[0])
+        for word in words:
+            self.holds(word, word in ended[2].decode() and word in " ".join(self.told()["remarks"]), ended[2].decode())
+
+    def name(self, hour):
+        return self.path(time.strftime("captures/br0-%Y%m%dT%H%M%SZ.pcap", time.gmtime(START + hour * HOUR)))
+
+    def test_files(self):
+        """A file that is cut, an hour twice, another link, no capture: named, and the others count."""
+        shutil.copy(self.name(8), self.path("captures/copy.pcap"))
+        self.put("captures/other.pcap", capture([(START + 60, bytes(20))], link=113))
+        self.put("captures/empty.pcap", b"")
+        self.remarks("is cut behind 2 packets, at 2026-11-30 17:05:00", "the hour is there twice", "this capture isn't of Ethernet")
+        rows = self.told()["hours"]
+        self.note("the hour that is twice, and the one that is cut", (2, 1), (rows[8]["passed"], rows[17]["passed"]))
+
+    def test_clock(self):
+        """A clock that was set back."""
+        rows = [(START + 20 * HOUR + at, days.ethernet(LAPTOP, days.ROUTER, 0x0800, bytes(20))) for at in (1000, 2000, 100)]
+        self.put(os.path.relpath(self.name(20), self.folder), capture(rows))
+        self.remarks("at 2026-11-30 20:33:20 the clock was set back to 2026-11-30 20:01:40")
+
+    def test_no_capture(self):
+        shutil.rmtree(self.path("captures"))
+        os.mkdir(self.path("captures"))
+        ended = self.day(DATE)
+        self.note("status", 1, ended[0])
+        self.holds("words", b"no capture in" in ended[2], ended[2])
+        self.holds("no folder", not os.path.exists(self.path("days/" + DATE)))
+
+    def test_no_copy(self):
+        """Where no copy was made an earlier one counts, which is told; without any there is no day."""
+        os.rename(self.path(f"days/copies/{DATE}.requests.gz"), self.path("days/copies/2026-11-28.requests.gz"))
+        self.remarks("no copy of the store was made at the beginning of 2026-11-30")
+        shutil.rmtree(self.path("days"))
+        ended = self.day(DATE)
+        self.holds("none at all", ended[0] == 1 and b"no copy of the store was kept" in ended[2], ended[2])
+        ended = self.day("--wait", "0.1")
+        self.holds("a console that isn't there", ended[0] == 1 and b"can't be reached" in ended[2], ended[2])
+
+    @unittest.skipIf(os.geteuid() != 0, "only root mounts a folder")
+    @needs("unshare", "mount")
+    def test_full(self):
+        """A folder that is full in the midst: what stands there stays."""
+        self.assertEqual(self.day(DATE)[0], 0)
+        sums = self.of("SHA256SUMS")
+        script = 'mount -t tmpfs -o size=420k none "$1.new" && cp -a "$1/." "$1.new/" && mount --move "$1.new" "$1" && shift && "$@"; s=$?; ls -A "$0"; cat "$0/%s/SHA256SUMS" | sha256sum >&2; exit $s' % DATE
+        os.mkdir(self.path("days.new"))
+        ended = run("--mount", "sh", "-c", script, self.path("days"), self.path("days"), os.path.abspath("contrib/mud-day"), "--in", self.folder, DATE, program="unshare", env=self.environment)
+        self.note("status", 1, ended.status)
+        self.holds("words", b"can't be written, and what was there stays" in ended.errors, ended.errors)
+        self.note("what is there", ["2026-11-30", "copies"], sorted(ended.out.decode().split()))
+        self.holds("as it was", digest(sums).encode() in ended.errors, ended.errors)
+
+    def test_days(self):
+        """Days of 23 and 25 hours."""
+        for date, hours, first in (("2026-03-29", 23, 1774738800), ("2026-10-25", 25, 1792879200)):
+            shutil.rmtree(self.path("captures"))
+            rows = [(first + at * HOUR + 60, days.ethernet(LAPTOP, days.ROUTER, 0x0800, bytes(20))) for at in range(-1, hours + 1)]
+            os.mkdir(self.path("captures"))
+            self.put("captures/br0.pcap", capture(rows))
+            shutil.copy(self.path(f"days/copies/{DATE}.requests.gz"), self.path(f"days/copies/{date}.requests.gz"))
+            self.note(f"{date}, status", 0, self.day(date)[0])
+            self.note(f"{date}, packets by hour", [1] * hours, [row["unmanaged"] for row in self.told(date)["hours"]])
+
+    def test_words(self):
+        for words in (["--verify"], ["2026-11-30", "2026-12-01"], ["--nothing"]):
+            self.note(" ".join(words), 2, self.day(*words)[0])
+        self.holds("no day", self.day("2026-13-01")[0] == 1)
+
+
+@needs("tcpdump")
+@unittest.skipIf(os.geteuid() != 0 or not there_is("unshare"), "only root captures")
+class Capturing(ProgramCase):
+    def test_capture(self):
+        """Files and counts come of an interface; the oldest go."""
+        for name, size, ago in (("old.pcap", 10, 20 * 86400), ("large.pcap", 3000, 300), ("new.pcap", 3000, 200)):
+            os.utime(self.put(name, bytes(size)), (time.time() - ago,) * 2)
+        script = 'ip link set lo up; "$@" & sleep 2; for n in 1 2 3; do echo x > /dev/udp/127.0.0.1/9; done; sleep 3; kill $!; wait $!'
+        words = ["--net", "bash", "-c", script, "bash", os.path.abspath("contrib/capture"), "--every", "1", "--days", "14", "--gigabytes", "0.000005", "lo"]
+        ended = run(*words, program="unshare", env={**os.environ, "MUD_CAPTURES": self.folder})
+        self.note("status", 0, ended.status)
+        found = [name for name in os.listdir(self.folder) if re.fullmatch(r"lo-\d{8}T\d{6}Z\.pcap", name)]
+        self.note("files", 1, len(found))
+        self.holds("packets", run("frames", input=self.path(found[0])).out.count(b" udp ") >= 3)
+        rows = [line.split() for line in read("lo.kernel", self.folder).decode().splitlines()]
+        self.holds("counts", sum(int(row[1]) for row in rows) >= 3 and all(row[2] == "0" for row in rows), rows)
+        self.note("what stays", ["new.pcap"], sorted(name for name in ("old.pcap", "large.pcap", "new.pcap") if os.path.exists(self.path(name))))
+        self.note("an interface that isn't there", 2, run("nowhere.9", program="contrib/capture").status)

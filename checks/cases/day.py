@@ -5,11 +5,9 @@ commands that the folder names), and from what was made. The page is looked at i
 """
 import collections
 import hashlib
-import html.parser
 import json
 import os
 import re
-import resource
 import shutil
 import subprocess
 import time
@@ -17,7 +15,7 @@ import unittest
 
 from checks import days, program
 from checks.case import ProgramCase, needs, there_is
-from checks.days import AT, BEFORE, CAMERA, CLOUD, DATE, HOUR, HUB, LAPTOP, LAMP, OUTSIDE, PLUG, SENSOR, START, URLS, VIDEO, WEB
+from checks.days import AT, CAMERA, CLOUD, DATE, HOUR, HUB, LAPTOP, LAMP, OUTSIDE, PLUG, SENSOR, START, URLS, VIDEO, WEB
 from checks.program import Server, capture, read, run
 
 LIBRARIES = "/usr/lib/python3/dist-packages"

@@ -1,6 +1,6 @@
 """Looks whether the connections of packets that are long ago take no memory, however many they were.
 
-A run that is given the least memory with which it judges 200 calls, in whole megabytes, and two more, judges 20,000
+A run that is given the least memory with which it judges 200 calls, in whole megabytes, and two more, judges 60,000
 calls a minute apart, and has too little for as many at once.
 """
 import resource
@@ -8,6 +8,8 @@ import struct
 
 from checks import program, session
 from checks.case import ProgramCase
+
+MANY = 60000
 
 
 def calls(count, apart):
@@ -35,7 +37,7 @@ class Connections(ProgramCase):
         few = self.put("few", calls(200, 60))
         limit = next((limit for limit in range(1, 1025) if self.judge(limit, few)[0] == 0), 1025)
         self.note("200 calls, those that pass", (0, 200), self.judge(limit, few))
-        status, passing = self.judge(limit + 2, self.put("many", calls(20000, 60)))
-        self.note("20,000 calls a minute apart, status", 0, status)
-        self.note("20,000 calls a minute apart, those that pass", 20000, passing)
-        self.note("20,000 calls at once, status", 5, self.judge(limit + 2, self.put("many", calls(20000, 0)))[0])
+        status, passing = self.judge(limit + 2, self.put("many", calls(MANY, 60)))
+        self.note(f"{MANY} calls a minute apart, status", 0, status)
+        self.note(f"{MANY} calls a minute apart, those that pass", MANY, passing)
+        self.note(f"{MANY} calls at once, status", 5, self.judge(limit + 2, self.put("many", calls(MANY, 0)))[0])

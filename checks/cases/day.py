@@ -233,7 +233,8 @@ class Made(OfDays):
         self.note("status", (0, b""), (ended.status, ended.errors))
         self.note("its own comparison", f"{self.path('days')}/{DATE}: all files come out the same\n", ended.out.decode())
         names = [name for name in os.listdir(self.path("days/" + DATE)) if name.startswith(("report-", "export-")) and name != "report-due"] + ["lines"]
-        self.note("files that are made one by one", 14, len(names) + (len(names) < 10))  # five reports, four lists, the lines
+        # five reports, four lists, and the lines
+        self.note("files that are made one by one", 10, len(names))
         for name in names:
             self.note(name, self.of(name), read(name, self.path("again")))
 

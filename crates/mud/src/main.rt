@@ -2,7 +2,6 @@
 //! over them.
 #![tactic(auto)]
 
-mod laws;
 mod store;
 mod store_runs;
 

@@ -1,3 +1,4 @@
+pub mod Blank
 pub mod Comparisons
 pub mod Crashes
 pub mod Creates

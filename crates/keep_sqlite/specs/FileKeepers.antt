@@ -1,5 +1,5 @@
 -- What a keeper tells whose file was opened, or couldn't be.
-use Rattle.std.specs.Prelude.{◌≡◌, ◌⊎◌, Bool, false, List, [], Result, Ok, Err}
+use Rattle.std.specs.Prelude.{◌≡◌, ◌⊎◌, Bool, false, List, [], Result, Ok, Err, IfOk}
 use Rattle.sqlite_disk.specs.declared.Disk as disk
 use Rattle.sqlite_disk.specs.declared.Files.{Files}
 use Rattle.sqlite_trees.specs.declared.store.Store.{Ghosts}
@@ -9,9 +9,11 @@ use Rattle.sqlite.specs.declared.error.ErrorCode.TheVariants.{CannotOpen, Databa
 use Rattle.sqlite.specs.declared.file.Leftover.{Leftover}
 use Rattle.sqlite.specs.declared.FileStore.{FileStore}
 use Rattle.sqlite.specs.Effect.{Database}
-use Rattle.sqlite.specs.Files.{image_of, over_files, FailsToOpenFiles, IsCleanLeft, LeavesFiles}
-use Rattle.sqlite.specs.Held.{Held, state}
+use Rattle.sqlite.specs.FileStore.{view}
+use Rattle.sqlite.specs.Files.{file_state, image_of, over_files, FailsToOpenFiles, IsBlankAs, IsCleanLeft, IsOpened, LeavesFiles}
+use Rattle.sqlite.specs.Held.{Held, state, IsNew}
 use Rattle.sqlite.specs.Recovery.{Image}
+use Rattle.sqlite.specs.Start.{FindsIn}
 use Rattle.sqlite.specs.State.{HasCleanDisk}
 use Rattle.mud_world.specs.declared.item.Item.{Item}
 use Rattle.mud_world.specs.declared.item.Put.{Put}
@@ -119,6 +121,19 @@ module _ {D : Type 0} {g : disk.Ghosts D} (image : Image) where
   UnopenedFor (Ok keeper) = Unit {0}
   UnopenedFor (Err refusal) = FailsToConnect g image refusal
 
+  -- A connection that was opened just now, over files that held this.
+  pub record IsJustOpened (connection : Held (FileStore D g)) : Type 0 where
+    -- No statement was done on it, and none has a limit of its steps.
+    pub fresh : IsNew connection
+    -- It is open outside a transaction, and sees a database, which is the one that was committed.
+    pub opened : HasCleanDisk (file_state connection) → IsOpened connection
+    -- That is what the files held; where they held nothing, its trees are empty.
+    pub finds : HasCleanDisk (file_state connection) → FindsIn image (file_state connection)
+    -- The pages of a file that is made now have no sums, which other programs would spoil.
+    pub plain : HasCleanDisk (file_state connection) → IsBlankAs false image → (view connection.store).has_sums ≡ false
+    -- Each later read is tested against a digest.
+    pub guarded : HasCleanDisk (file_state connection) → (file_state connection).IsShielded
+
   -- What a keeper is whose file was opened just now, and held this.
   pub record IsOpenedOver (keeper : Result (KeeperView (FileStore D g)) Refusal) : Type 0 where
     -- Where it tells its items, they are those that the file held, and a crash leaves just these.
@@ -128,6 +143,10 @@ module _ {D : Type 0} {g : disk.Ghosts D} (image : Image) where
     pub tells : (held : Database) → HeldDatabase image held → MayHold false held → OpenedIsClean over_files keeper → OpenedTells over_files keeper
     -- Whatever database the file held, it is then the one that the keeper sees.
     pub sees : (held : Database) → HeldDatabase image held → OpenedIsClean over_files keeper → OpenedSees over_files keeper held
+    -- Where there was no database file, or an empty one, it tells that there are no items.
+    pub blank : image.db ≡ [] → OpenedIsClean over_files keeper → OpenedTells over_files keeper × (opened_items over_files keeper ≡ [])
+    -- Nothing was done with its connection since.
+    pub connection : IfOk keeper (λ k. IsJustOpened k.connection)
     -- Where the file couldn't be opened, the system refused it, or the database failed on what it held.
     pub unopened : UnopenedFor keeper
     -- No `open` has answered Ok yet.

@@ -1,5 +1,5 @@
 //! A keeper over the file at a path, which is opened when the keeper is made.
-ghost use Rattle.std.specs.Prelude.{◌≡◌, ◌⊎◌, List, true, false, IsTrue, IfOk, IfErr, IfSome, OnOk, OnErr};
+ghost use Rattle.std.specs.Prelude.{◌≡◌, ◌⊎◌, List, true, false, is_ok, is_some, IsTrue, IfOk, IfErr, IfSome, OnOk, OnErr};
 ghost use Rattle.mud_world.specs.declared.item.Item.{Item};
 ghost use Rattle.mud_world.specs.Calls.{counted};
 ghost use Rattle.mud_world.specs.Causes.{Counts};
@@ -123,9 +123,10 @@ pub fn open_file<S: Start>(
     FileKeeper::over(rt, path, opened)
 }
 
-/// The store of a keeper whose file was opened. Whatever a crash leaves of it at this moment, the next
+/// The store of a keeper whose file was opened, and none of another. Whatever a crash leaves of it at this moment, the next
 /// first opening answers items that the keeper may leave.
 pub fn leave_file<D: Disk + Drop>(keeper: FileKeeper<FileStore<D>>) -> Option<FileStore<D>>
+    ensures some { is_some result ≡ is_ok keeper.keeper }
     ensures found { IfSome result (λ store. IsClean (view store)
         → IsFoundNext store (OpenedMayLeave over_files keeper.keeper)) }
 {

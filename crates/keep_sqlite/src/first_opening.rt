@@ -1,10 +1,7 @@
 //! The first opening of a path, whatever its file holds.
 ghost use Rattle.std.specs.Prelude.{◌≡◌, IfOk, IfErr, Ok, Err};
-ghost use Rattle.sqlite.specs.Files.{file_state, IsOpened};
-ghost use Rattle.sqlite.specs.Start.{FindsIn};
-ghost use Rattle.sqlite.specs.State.{HasCleanDisk};
 ghost use Rattle.sqlite.specs.WalFiles.{image_at};
-ghost use Rattle.keep_sqlite.specs.FileKeepers.{UnconnectedFor};
+ghost use Rattle.keep_sqlite.specs.FileKeepers.{IsJustOpened, UnconnectedFor};
 ghost use Rattle.keep_sqlite.specs.Refusals.{refusal_of};
 
 use crate::refusal::{Refusal, refusal_of};
@@ -16,9 +13,7 @@ pub(crate) fn connect<S: Start>(
     path: &str,
     start: S,
 ) -> Result<Connection<FileStore<FileFrom<S>>>, Refusal>
-    ensures opened { IfOk result (λ c. HasCleanDisk (file_state c) → IsOpened c) }
-    ensures found { IfOk result (λ c. HasCleanDisk (file_state c)
-        → FindsIn (image_at S.Start) (file_state c)) }
+    ensures opened { IfOk result (IsJustOpened (image_at S.Start)) }
     // Where it gives up, the system refused to open the files, or the database failed on what they held.
     ensures unopened { UnconnectedFor (image_at S.Start) result }
 {

@@ -4,7 +4,5 @@ use Rattle.keep_sqlite.specs.FileKeepers.{OpenedMayLeave}
 use Rattle.keep_sqlite.specs.Reopened.{IsFoundNext}
 use Rattle.keep_sqlite.proofs.file_keeper.leave_file.Goals as goal
 
-pub returns-in-Ok : goal.returns-in-Ok
-returns-in-Ok g c = record {
-  found = λ clean. subst (λ k. IsFoundNext c.leave.result (OpenedMayLeave over_files k)) (sym c.in-Ok.is ∙ c.into_keeper.ensures) (c.leave.ensures.next clean);
-}
+pub returns-in-Ok-clause-found : goal.returns-in-Ok-clause-found
+returns-in-Ok-clause-found g c = λ clean. subst (λ k. IsFoundNext c.leave.result (OpenedMayLeave over_files k)) (sym c.in-Ok.is ∙ c.into_keeper.ensures) (c.leave.ensures.next clean)

@@ -5,4 +5,4 @@ pub returns-clause-opened : goal.returns-clause-opened
 returns-clause-opened g c =
     let opened = c.connect-opened.ensures in
     let keeper = c.over.ensures in
-    opened_file _ c.connect-opened.result c.over.result.keeper keeper.adopted keeper.unread opened.opened opened.found keeper.rests opened.unopened
+    opened_file _ c.connect-opened.result c.over.result.keeper keeper.adopted keeper.unread opened.opened keeper.rests opened.unopened

@@ -92,7 +92,7 @@ class Servers(OnSite):
         "local.example": ([["127.0.0.1"]], "127.0.0.1, which is of a private network"),
         "metadata.example": ([["169.254.169.254"]], "169.254.169.254, which is of a private network"),
         "private.example": ([["192.168.1.1"]], "192.168.1.1, which is of a private network"),
-        "own.example": ([["11.0.0.1"]], "11.0.0.1, which is of a private network or of this machine"),
+        "own.example": ([["11.0.0.1"]], "11.0.0.1, which is of a private network or of this machine's"),
         "both.example": ([[SERVER, "127.0.0.1"]], "127.0.0.1, which is of a private network"),
         "nobody.example": ([[OTHER]], "connect"),
         "no-name.example": ([], "its name has no address"),
@@ -251,7 +251,7 @@ class Signatures(OnSite):
         self.site.hour_later()
         self.note("it isn't said twice", {}, self.fetched())
         self.site.hour_later()
-        self.says(self.fetched("--again"), url, f"new {sha256} waits")
+        self.says(self.fetched("--again", url), url, f"new {sha256} waits")
         self.note("it waits again", {url: (None, sha256)}, self.site.held())
 
 
@@ -283,7 +283,7 @@ class Runs(OnSite):
 
     def test_one_server_with_many(self):
         """A run ends with its minute, and the next one goes on with the URLs that are left."""
-        urls = [f"https://slow.example/{number}" for number in range(16)]
+        urls = [f"https://slow.example/{number}" for number in range(8)]
         for number, url in enumerate(urls):
             self.site.serve_file("slow.example", usage_file(url), str(number))
         self.site.open({"slow.example": "limit_rate 120;"}, {})
@@ -315,7 +315,7 @@ class Runs(OnSite):
         self.site.serve_file("many.example", usage_file(urls[128]), "128")
         self.site.open({"many.example": ""}, {})
         self.store(urls, [("POST", "/files", usage_file(url)) for url in urls[:128]])
-        self.site.write("state/memory.json", json.dumps({"servers": {}, "urls": {url: {"asked": int(time.time()), "told": {}, "posted": None, "gone": []} for url in urls[:128]}}))
+        self.site.write("state/memory.json", json.dumps({"servers": {}, "urls": {url: {"asked": int(time.time()), "told": {}, "seen": []} for url in urls[:128]}}))
         self.says(self.fetched(), urls[128], "CacheFull")
         self.site.hour_later(3600)
         self.holds("it is told once", urls[128] not in self.fetched())

@@ -5,15 +5,22 @@ elsewhere or is none leaves the store as it was, and can't touch another URL; ve
 said otherwise; no server is asked twice in an hour.
 """
 import hashlib
+import ipaddress
 import json
+import os
 import subprocess
+import sys
 import time
 import unittest
 
 from checks import program
-from checks.case import ProgramCase, needs
+from checks.case import Case, ProgramCase, needs
 from checks.makers import OTHER, SERVER, Makers, can_be_made, usage_file
 from checks.session import announcement
+
+sys.dont_write_bytecode = True
+sys.path.append(os.path.join(program.HERE, "contrib"))
+import https_get  # noqa: E402 (it stands in contrib/)
 
 MOST = 262144
 SIGNED = "https://{0}/thing.p7s"
@@ -29,6 +36,23 @@ def digest(octets):
 
 def url_of(host):
     return f"https://{host}/thing"
+
+
+class Heads(Case):
+    def test_place(self):
+        """Where a head sends on to, in little time whatever stands in it; what is no URL is said."""
+        began = time.process_time()
+        for line, wanted in ((b"Location: https://a.example/x", "https://a.example/x"), (b"LOCATION:/x \r", "/x"), (b"Location: a b", None),
+                             (b"location:" + b" " * 60000 + b"\x80", None), (b"X-Location: /x", None)):
+            self.note(repr(line[:40]), wanted, https_get.location_of(b"HTTP/1.1 302 Found\n" + line))
+        self.holds("in little time", time.process_time() - began < 1)
+
+    def test_addresses(self):
+        """Which addresses are those of servers in the Internet."""
+        for text, wanted in (("9.9.9.9", True), ("2620:fe::fe", True), ("10.0.0.1", False), ("100.64.0.1", False), ("169.254.169.254", False), ("::1", False),
+                             ("fe80::1", False), ("fd00::1", False), ("::ffff:127.0.0.1", False), ("::7f00:1", False), ("2002:7f00:1::", False),
+                             ("64:ff9b::7f00:1", False), ("64:ff9b::909:909", True), ("224.0.0.1", False), ("0.0.0.0", False)):
+            self.note(text, wanted, https_get.is_public(ipaddress.ip_address(text)))
 
 
 @needs("nginx", "htpasswd", "nft", "systemd-sysusers", "curl", "ip", "nsenter", "openssl", "getent")

@@ -10,7 +10,6 @@ import html.parser
 import json
 import os
 import re
-import resource
 import shutil
 import subprocess
 import time
@@ -18,7 +17,7 @@ import unittest
 
 from checks import browser, days, program
 from checks.case import ProgramCase, needs, there_is
-from checks.days import AT, BEFORE, CAMERA, CLOUD, DATE, HOUR, HUB, LAPTOP, LAMP, OUTSIDE, PLUG, SENSOR, START, URLS, VIDEO, WEB
+from checks.days import AT, CAMERA, CLOUD, DATE, HOUR, HUB, LAPTOP, LAMP, OUTSIDE, PLUG, SENSOR, START, URLS, VIDEO, WEB
 from checks.program import Server, capture, read, run
 
 LIBRARIES = "/usr/lib/python3/dist-packages"

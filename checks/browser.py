@@ -42,6 +42,31 @@ def within(process):
             library.setns(own.fileno(), NETWORK)
 
 
+@contextlib.contextmanager
+def alone():
+    """A browser for a file."""
+    webdriver, _, _ = selenium()
+    from selenium.webdriver.chrome.service import Service
+    options = webdriver.ChromeOptions()
+    options.binary_location = "/usr/bin/chromium"
+    for word in ("headless=new", "no-sandbox", "disable-gpu", "disable-dev-shm-usage", "disable-background-networking", "no-first-run", "window-size=1280,1000"):
+        options.add_argument("--" + word)
+    options.set_capability("goog:loggingPrefs", {"browser": "ALL"})
+    driver = webdriver.Chrome(service=Service("/usr/bin/chromedriver"), options=options)
+    try:
+        yield driver
+    finally:
+        driver.quit()
+
+
+def shot_of(driver, folder, name):
+    """A picture of all that is shown."""
+    os.makedirs(folder, exist_ok=True)
+    height = driver.execute_script("return document.documentElement.scrollHeight")
+    driver.execute_cdp_cmd("Emulation.setDeviceMetricsOverride", {"width": 1280, "height": min(height, 8000), "deviceScaleFactor": 1, "mobile": False})
+    driver.save_screenshot(os.path.join(folder, name + ".png"))
+
+
 class Browser:
     """The page at the site, as an operator sees it: with Browser(site) as page: page.click("Hold") .."""
 

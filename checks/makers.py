@@ -12,6 +12,8 @@ from checks import program
 from checks.site import PORT, Site
 
 MANAGER, SERVER, OTHER = "11.0.0.1", "11.0.0.2", "11.0.0.3"
+# the link between both, which is no network of the makers'
+LINK = ("10.99.0.1/30", "10.99.0.2/30")
 BASE = {"mud-version": 1, "last-update": "2026-01-01T00:00:00Z", "cache-validity": 48, "is-supported": True, "systeminfo": "a Thing",
         "from-device-policy": {"access-lists": {"access-list": []}}, "to-device-policy": {"access-lists": {"access-list": []}}}
 # a DNS server: each question of a name takes its next row of addresses, and the last row stays
@@ -104,9 +106,12 @@ class Makers(Site):
         if self.servers.stdout.readline() != b"made\n":
             raise OSError(self.end(self.servers))
         link = ["link", "add", "makers", "netns", str(self.holder.pid), "type", "veth", "peer", "name", "manager", "netns", str(self.servers.pid)]
-        for holder, words in ((None, link), (self.holder, ["addr", "add", MANAGER + "/24", "dev", "makers"]), (self.holder, ["link", "set", "makers", "up"]),
-                              (self.servers, ["addr", "add", SERVER + "/24", "dev", "manager"]), (self.servers, ["addr", "add", OTHER + "/24", "dev", "manager"]),
-                              (self.servers, ["link", "set", "manager", "up"])):
+        steps = [(None, link)]
+        for holder, device, at, addresses in ((self.holder, "makers", LINK[0], [MANAGER]), (self.servers, "manager", LINK[1], [SERVER, OTHER])):
+            steps += [(holder, ["addr", "add", one, "dev", device]) for one in (at, *(address + "/32" for address in addresses))]
+            steps.append((holder, ["link", "set", device, "up"]))
+        steps.append((self.holder, ["route", "add", "11.0.0.0/24", "via", LINK[1].partition("/")[0]]))
+        for holder, words in steps:
             ended = program.run(*([] if holder is None else ["-t", str(holder.pid), "-n", "ip"]), *words, program="ip" if holder is None else "nsenter")
             if ended.status != 0:
                 raise OSError(ended.errors.decode())

@@ -102,7 +102,10 @@ class Console:
         try:
             at = urllib.parse.urlsplit(self.place)
             host = at.hostname or "127.0.0.1"
-            connection = http.client.HTTPConnection(host, at.port or 80, timeout=ANSWER)
+            if at.scheme not in ("http", "https"):
+                raise ValueError
+            make = http.client.HTTPSConnection if at.scheme == "https" else http.client.HTTPConnection
+            connection = make(host, at.port, timeout=ANSWER)
         except ValueError as failure:
             raise Fault(f"MUD_CONSOLE is no place of a console: {self.place}") from failure
         self.above, self.lines = at.path.rstrip("/"), login(host)

@@ -1,5 +1,7 @@
 """What the operator says to 'fetch' in /etc/mud/fetch.conf, or in the file that MUD_FETCH_CONF names."""
 import configparser
+import ipaddress
+import json
 import os
 import shlex
 import subprocess
@@ -47,7 +49,9 @@ class Settings:
 
     def __init__(self):
         words = said()
-        self.rules = https_get.Rules(words["private"] == "yes", words["trust"] or None, words["proxy"] or None, words["language"])
+        self.rules = https_get.Rules(words["private"] == "yes", (), words["trust"] or None, words["proxy"] or None, words["language"])
+        if words["trust"] and not os.path.isfile(words["trust"]):
+            raise Misconfigured(f"trust is a file of anchors, and {words['trust']} is none")
         self.approves_verified = words["approve"] == "verified"
         self.rejects_bad = words["reject"] == "bad"
         self.program = os.environ.get("MUD") or "mud"
@@ -55,6 +59,15 @@ class Settings:
             self.command = shlex.split(words["notify"])
         except ValueError as failure:
             raise Misconfigured(f"notify can't be read: {failure}") from failure
+
+    def is_near(self, locals_told):
+        """The networks that the machine is in: those that the manager was told, and those of its own interfaces."""
+        try:
+            said = json.loads(subprocess.run(["ip", "-j", "addr"], capture_output=True, timeout=SECONDS, check=False).stdout)
+        except (OSError, ValueError, subprocess.SubprocessError):
+            said = []
+        own = [f"{it['local']}/{it['prefixlen']}" for row in said for it in row.get("addr_info", []) if "local" in it]
+        self.rules = self.rules._replace(near=tuple(ipaddress.ip_network(text, strict=False) for text in [*locals_told, *own]))
 
     def notify(self, line):
         """Calls the operator's command with the line as its last word."""

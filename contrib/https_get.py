@@ -7,7 +7,6 @@ to. Of the machine's own addresses and those of private networks none is asked, 
 """
 import collections
 import ipaddress
-import os
 import re
 import socket
 import subprocess
@@ -22,14 +21,17 @@ AGENT = "mud-fetch"
 # what an https URL is: a host or a literal address, a port, and a path of printable characters
 FORM = re.compile(r"https://(\[[0-9a-fA-F:.]+\]|[A-Za-z0-9._-]+)(?::([0-9]{1,5}))?(/[!-~]*)?")
 # networks of which no address is one of a server in the Internet, though Python's list lets them through
-ELSEWHERE = [ipaddress.ip_network(text) for text in ("2002::/16", "fec0::/10", "64:ff9b:1::/48")]
+ELSEWHERE = [ipaddress.ip_network(text) for text in ("::/96", "2002::/16", "fec0::/10", "64:ff9b:1::/48")]
 TRANSLATED = ipaddress.ip_network("64:ff9b::/96")
 # how curl ends where nobody answers as a server of https does
 DEAD = (5, 6, 7, 28, 35, 52, 56, 60)
 
-# private: whether addresses of private networks are asked; trust: a file or a folder of anchors, or None for the
-# system's; proxy: its URL, or None; language: what is preferred of a server's languages
-Rules = collections.namedtuple("Rules", "private trust proxy language", defaults=(False, None, None, "en"))
+# a folder that isn't there: no anchors but those of a file
+NOWHERE = "/nonexistent"
+
+# private: whether addresses of private networks are asked; near: the networks that the machine is in, none of which is
+# asked else; trust: a file of anchors, or None for the system's; proxy: its URL, or None; language: what is preferred
+Rules = collections.namedtuple("Rules", "private near trust proxy language", defaults=(False, (), None, None, "en"))
 
 
 class NotGot(Exception):
@@ -72,10 +74,15 @@ def is_own(address):
     return True
 
 
+def is_near(address, rules):
+    """Whether an address is in a network that the machine is in."""
+    return any(address.version == network.version and address in network for network in rules.near)
+
+
 def addresses_of(host, rules, until):
     """The addresses of a host, each of which may be asked."""
     try:
-        found = subprocess.run(["getent", "ahosts", host.strip("[]")], stdin=subprocess.DEVNULL, capture_output=True,
+        found = subprocess.run(["getent", "ahosts", "--", host.strip("[]")], stdin=subprocess.DEVNULL, capture_output=True,
                                timeout=max(0.1, until - time.monotonic()), check=False).stdout.decode("ascii", "replace")
     except subprocess.TimeoutExpired:
         raise NotGot("its name wasn't found in time", dead=True) from None
@@ -84,9 +91,18 @@ def addresses_of(host, rules, until):
         raise NotGot("its name has no address", dead=True)
     addresses = [ipaddress.ip_address(text) for text in texts]
     for address in addresses:
-        if not rules.private and (not is_public(address) or is_own(address)):
-            raise NotGot(f"its name has the address {address}, which is of a private network or of this machine", dead=True)
+        if not rules.private and (not is_public(address) or is_own(address) or is_near(address, rules)):
+            raise NotGot(f"its name has the address {address}, which is of a private network or of this machine's", dead=True)
     return addresses
+
+
+def is_literal(host):
+    """Whether a host is an address itself, which curl connects to as it is."""
+    try:
+        ipaddress.ip_address(host.strip("[]"))
+    except ValueError:
+        return False
+    return True
 
 
 def words_of_curl(url, accept, rules, until):
@@ -96,13 +112,13 @@ def words_of_curl(url, accept, rules, until):
              "--path-as-is", "--proto", "=https", "--tlsv1.2", "--connect-timeout", str(CONNECT), "-A", AGENT,
              "-H", f"Accept: {accept}", "-H", f"Accept-Language: {rules.language}"]
     if rules.trust:
-        words += ["--capath" if os.path.isdir(rules.trust) else "--cacert", rules.trust]
+        words += ["--cacert", rules.trust, "--capath", NOWHERE]
     if rules.proxy:
         words += ["--noproxy", "", "--proxy", rules.proxy]
     else:
         addresses = [f"[{it}]" if it.version == 6 else str(it) for it in addresses_of(host, rules, until)]
         words += ["--noproxy", "*"]
-        if not re.fullmatch(r"\[.*\]|[0-9.]+", host):
+        if not is_literal(host):
             words += ["--resolve", f"{host}:{port}:{','.join(addresses)}"]
     return words + ["--max-time", f"{max(0.1, until - time.monotonic()):.1f}", "--", url]
 
@@ -116,9 +132,19 @@ def answered(words, most):
             return octets
         said = curl.stderr.read().decode("utf-8", "replace").strip()
     if curl.returncode:
-        raise NotGot(readable(re.sub(r"^curl: \([0-9]+\) ", "", said.split("\n")[0])) or f"curl ended with {curl.returncode}",
+        words = re.sub(r"^curl: \([0-9]+\) | after [0-9]+ m.*", "", said.split("\n")[0])
+        raise NotGot(readable(words) or f"curl ended with {curl.returncode}",
                      dead=curl.returncode in DEAD)
     return octets
+
+
+def location_of(head):
+    """The place to which a head sends on, or None."""
+    for line in head.split(b"\n"):
+        name, _, value = line.partition(b":")
+        if name.strip().lower() == b"location" and re.fullmatch(rb"[!-~]+", value.strip()):
+            return value.strip().decode("ascii")
+    return None
 
 
 def head_and_body(octets):
@@ -130,8 +156,7 @@ def head_and_body(octets):
             raise NotGot("the server's answer has no head")
         octets = parts[1]
         if status[1][:1] != b"1":
-            place = re.search(rb"^location:[ \t]*([!-~]*)[ \t]*\r?$", parts[0], re.M | re.I)
-            return int(status[1]), place and place[1].decode("ascii"), octets
+            return int(status[1]), location_of(parts[0]), octets
 
 
 def get(url, most, accept, rules, until):
@@ -145,7 +170,10 @@ def get(url, most, accept, rules, until):
             return body
         if status not in (301, 302, 303, 307, 308) or not place:
             raise NotGot(f"the server answers {status}")
-        here = urllib.parse.urldefrag(urllib.parse.urljoin(here, place))[0]
+        try:
+            here = urllib.parse.urldefrag(urllib.parse.urljoin(here, place))[0]
+        except ValueError:
+            raise NotGot(f"the server sends to what is no URL: {readable(place)}") from None
         if place_of(here) != place_of(url):
             raise NotGot(f"the server sends elsewhere: {readable(here)}")
     raise NotGot(f"the server sends on more than {REDIRECTS} times")

@@ -1,6 +1,7 @@
 """A maker's usage file: which URL it is for, when it was made and where its signature is, as the manager reads it, and
 what came of the signature's check, which stands beside its octets in the folder of files."""
 import collections
+import contextlib
 import json
 import os
 import subprocess
@@ -60,6 +61,13 @@ def note(sha256, url, outcome, now):
     """Keeps beside a file's octets what came of the check of its signature."""
     said = {"url": url, "checked": now, **outcome._asdict()}
     kept_files.write_whole(path_of_outcome(sha256), (json.dumps(said) + "\n").encode(), 0o644)
+
+
+def drop(sha256):
+    """Takes a file's octets away, and what came of the check of its signature."""
+    for path in (kept_files.path_of(sha256), path_of_outcome(sha256)):
+        with contextlib.suppress(OSError):
+            os.unlink(path)
 
 
 def words_of(outcome):

@@ -18,13 +18,13 @@ SECONDS = 10
 CHAINS = {"certificate has expired": "ended", "certificate is not yet valid": "not-begun", "too weak": "weak", "too small": "weak",
           "unable to get local issuer certificate": "another-anchor", "self-signed certificate": "another-anchor",
           "unable to get issuer certificate": "another-anchor", "unable to verify the first certificate": "another-anchor"}
-OLD = re.compile(r"^.*\balgorithm: .*(md[245]|sha-?1\b|sha1with|with-sha1\b).*$", re.I | re.M)
+OLD = re.compile(r"^[ \t]*[a-z ]{0,30}algorithm: [^\n]{0,80}?(md[245]|sha-?1\b|sha1with|with-sha1\b)", re.I | re.M)
 MEANINGS = {
     "good": "the signature is good", "other-octets": "the signature is one of other octets", "ended": "a certificate of the signature has ended",
     "not-begun": "a certificate of the signature isn't valid yet", "another-anchor": "the signature doesn't lead to an anchor of this host",
     "weak": "the signature or its chain is made by MD5, SHA-1 or a short key", "usage": "the signing certificate isn't one for signatures",
     "unreadable": "the signature can't be read", "no-anchor": "there is no anchor for this host", "no-signature": "the file names no signature",
-    "not-got": "the signature can't be got"}
+    "not-got": "the signature can't be got", "not-checked": "the signature couldn't be checked here"}
 # there is a signature and an anchor, and it doesn't hold
 BAD = ("other-octets", "ended", "not-begun", "another-anchor", "weak", "usage", "unreadable")
 
@@ -41,13 +41,17 @@ def anchors_of(host):
     return path if os.path.isfile(path) else None
 
 
+class Unchecked(Exception):
+    """Why nothing can be said of a signature: the fault isn't the maker's."""
+
+
 def openssl(*words):
     """A run of openssl: whether it was done, and what it wrote."""
     try:
         ended = subprocess.run(["openssl", *words], stdin=subprocess.DEVNULL, stdout=subprocess.PIPE, stderr=subprocess.STDOUT,
                                timeout=SECONDS, check=False)
-    except subprocess.TimeoutExpired:
-        return False, ""
+    except (OSError, subprocess.TimeoutExpired) as failure:
+        raise Unchecked(f"openssl: {failure}") from None
     return ended.returncode == 0, ended.stdout.decode("utf-8", "replace")
 
 
@@ -80,6 +84,16 @@ def check(octets, signature, host):
     anchors = anchors_of(host)
     if not anchors:
         return Outcome("no-anchor")
+    try:
+        if not openssl("x509", "-in", anchors, "-noout")[0]:
+            raise Unchecked(f"{anchors} has no certificate in PEM that can be read")
+        return checked(octets, signature, anchors)
+    except (Unchecked, OSError) as failure:
+        return Outcome("not-checked", str(failure))
+
+
+def checked(octets, signature, anchors):
+    """The same with the anchors of a file."""
     with tempfile.TemporaryDirectory() as folder:
         paths = {name: os.path.join(folder, name) for name in ("file", "signature", "signer")}
         for name, content in (("file", octets), ("signature", signature)):

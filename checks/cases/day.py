@@ -3,8 +3,10 @@
 What is wanted is computed here from the program's own lines ('lines' of the folder, and runs of 'judge' and 'tally' by the
 commands that the folder names), and from what was made. The page is looked at in Chromium.
 """
+import base64
 import collections
 import hashlib
+import html.parser
 import json
 import os
 import re
@@ -13,7 +15,7 @@ import subprocess
 import time
 import unittest
 
-from checks import days, program
+from checks import browser, days, program
 from checks.case import ProgramCase, needs, there_is
 from checks.days import AT, CAMERA, CLOUD, DATE, HOUR, HUB, LAPTOP, LAMP, OUTSIDE, PLUG, SENSOR, START, URLS, VIDEO, WEB
 from checks.program import Server, capture, read, run
@@ -233,7 +235,7 @@ class Made(OfDays):
         self.note("status", (0, b""), (ended.status, ended.errors))
         self.note("its own comparison", f"{self.path('days')}/{DATE}: all files come out the same\n", ended.out.decode())
         names = [name for name in os.listdir(self.path("days/" + DATE)) if name.startswith(("report-", "export-")) and name != "report-due"] + ["lines"]
-        # five reports, four lists, and the lines
+        # five reports, the lists of four Things, the lines
         self.note("files that are made one by one", 10, len(names))
         for name in names:
             self.note(name, self.of(name), read(name, self.path("again")))
@@ -328,6 +330,109 @@ class Bad(OfDays):
         for words in (["--verify"], ["2026-11-30", "2026-12-01"], ["--nothing"]):
             self.note(" ".join(words), 2, self.day(*words)[0])
         self.holds("no day", self.day("2026-13-01")[0] == 1)
+
+
+class Page(html.parser.HTMLParser):
+    """The text of a page, the rows of its tables by their captions, and the text alternatives of its pictures."""
+
+    def __init__(self, octets):
+        super().__init__()
+        self.text, self.tables, self.pictures, self.tags, self.within = "", {}, [], collections.Counter(), None
+        self.feed(octets.decode())
+
+    def handle_starttag(self, tag, attributes):
+        self.tags[tag] += 1
+        self.within = tag if tag in ("script", "style") else None if tag == "table" else self.within
+        if tag == "svg":
+            self.pictures.append(dict(attributes)["aria-label"])
+        elif tag == "caption":
+            self.caption = ""
+        elif tag == "tr":
+            self.row = []
+        elif tag in ("td", "th"):
+            self.row.append("")
+        if tag in ("caption", "tr", "td", "th"):
+            self.within = tag
+
+    def handle_endtag(self, tag):
+        if tag == "caption":
+            self.tables.setdefault(self.caption, [])
+        elif tag == "tr":
+            self.tables[self.caption].append(self.row)
+        if tag == self.within:
+            self.within = None
+
+    def handle_data(self, data):
+        if self.within not in ("script", "style"):
+            self.text += data
+        if self.within == "caption":
+            self.caption += data
+        elif self.within in ("td", "th"):
+            self.row[-1] += data
+
+
+@unittest.skipIf(not libraries(), "there is no python3-jinja2 and python3-matplotlib")
+class Report(OfDays):
+    """The page, with its numbers, its words, and as a browser shows it."""
+
+    def setUp(self):
+        super().setUp()
+        self.assertEqual(self.day(DATE)[0], 0)
+        self.octets = self.of("report.html")
+        self.page = Page(self.octets)
+
+    def test_numbers(self):
+        """Tables and pictures have the day's numbers, counted from the lines."""
+        wanted = collections.Counter()
+        for line in self.of("lines").decode().splitlines():
+            row = Row(line)
+            kind = {"pass u": "unmanaged", "pass l": "link upkeep"}.get(row.verdict[:6], "passed" if row.verdict[:4] == "pass" else "dropped")
+            kind = "begun before the capture" if row.has(HUB) else "not known yet" if row.has("192.0.2.40") else kind
+            wanted[f"{(row.second - START) // HOUR:02}:00", kind] += 1
+        head, *rows = self.page.tables["Packets by hour, as the picture has them"]
+        got = {(row[0], kind): int(number) for row in rows for kind, number in zip(head[1:], row[1:]) if number != "0"}
+        self.note("the table of hours", dict(wanted), got)
+        said = {(hour, kind): int(number) for hour, part in re.findall(r"(\d\d:00): ([^;]*)[;.]", self.page.pictures[0]) for number, kind in re.findall(r"(\d+) ([a-z ]+)", part)}
+        self.note("the picture of hours", dict(wanted), said)
+        self.holds("the worst hour", "The worst hour began at 03:00, with 100 dropped." in self.page.text)
+        self.holds("the picture of who talks to whom", f"cams.example.com/camera and {OUTSIDE} ({OUTSIDE}): 100 dropped" in self.page.pictures[1], self.page.pictures[1])
+        self.holds("a peer by its name", f"video.example.net ({VIDEO}): 62 passed" in self.page.pictures[1], self.page.pictures[1])
+
+    def test_words(self):
+        """Names that others chose come out as text, and what isn't proved is said."""
+        for words in (HOLDER, "plugs.example.com/plug'&lt;b&gt;", '<from "1"> in the list from & list', "What is proved, and what isn't", "given by anna", "100 ports from 1 to 100 of the Thing"):
+            self.holds(words, words in self.page.text)
+        self.note("elements that nobody wrote", 0, self.page.tags["b"])
+        self.holds("nothing is asked for elsewhere", not re.search(rb'(?:src|href)="(?!#)', self.octets) and b"url(http" not in self.octets)
+
+    @needs("tidy")
+    def test_form(self):
+        ended = run("-q", "-e", os.path.join(self.path("days/" + DATE), "report.html"), program="tidy")
+        self.note("tidy", (0, b""), (ended.status, ended.errors))
+
+    @needs("chromium", "chromedriver")
+    @unittest.skipIf(browser.selenium() is None, "there is no python3-selenium")
+    def test_browser(self):
+        """Tables sort, nothing is wider than the page, and pictures of it go to out/day."""
+        with browser.alone() as driver:
+            for name, dark in (("light", False), ("dark", True)):
+                driver.execute_cdp_cmd("Emulation.setEmulatedMedia", {"features": [{"name": "prefers-color-scheme", "value": name}]})
+                driver.get(f"file://{self.path('days')}/{DATE}/report.html")
+                colour = driver.execute_script("return getComputedStyle(document.body).backgroundColor")
+                self.note(f"the paper, {name}", "rgb(21, 24, 28)" if dark else "rgb(255, 255, 255)", colour)
+                self.note(f"wider than the page, {name}", 0, driver.execute_script("return document.documentElement.scrollWidth - document.documentElement.clientWidth"))
+                browser.shot_of(driver, "out/day", name)
+            column = "return [...document.querySelectorAll('#hours tbody tr')].map(row => Number(row.children[2].textContent))"
+            numbers = driver.execute_script(column)
+            press = "document.querySelectorAll('#hours th button')[2].click()"
+            driver.execute_script(press)
+            self.note("sorted", sorted(numbers), driver.execute_script(column))
+            driver.execute_script(press)
+            self.note("and back", sorted(numbers, reverse=True), driver.execute_script(column))
+            self.note("errors", [], driver.get_log("browser"))
+            printed = driver.execute_cdp_cmd("Page.printToPDF", {})["data"]
+            with open("out/day/report.pdf", "wb") as file:
+                file.write(base64.b64decode(printed))
 
 
 @needs("tcpdump")

@@ -5,15 +5,22 @@ elsewhere or is none leaves the store as it was, and can't touch another URL; ve
 said otherwise; no server is asked twice in an hour.
 """
 import hashlib
+import ipaddress
 import json
+import os
 import subprocess
+import sys
 import time
 import unittest
 
 from checks import program
-from checks.case import ProgramCase, needs
+from checks.case import Case, ProgramCase, needs
 from checks.makers import OTHER, SERVER, Makers, can_be_made, usage_file
 from checks.session import announcement
+
+sys.dont_write_bytecode = True
+sys.path.append(os.path.join(program.HERE, "contrib"))
+import https_get  # noqa: E402 (it stands in contrib/)
 
 MOST = 262144
 SIGNED = "https://{0}/thing.p7s"
@@ -29,6 +36,23 @@ def digest(octets):
 
 def url_of(host):
     return f"https://{host}/thing"
+
+
+class Heads(Case):
+    def test_place(self):
+        """Where a head sends on to, in little time whatever stands in it; what is no URL is said."""
+        began = time.process_time()
+        for line, wanted in ((b"Location: https://a.example/x", "https://a.example/x"), (b"LOCATION:/x \r", "/x"), (b"Location: a b", None),
+                             (b"location:" + b" " * 60000 + b"\x80", None), (b"X-Location: /x", None)):
+            self.note(repr(line[:40]), wanted, https_get.location_of(b"HTTP/1.1 302 Found\n" + line))
+        self.holds("in little time", time.process_time() - began < 1)
+
+    def test_addresses(self):
+        """Which addresses are those of servers in the Internet."""
+        for text, wanted in (("9.9.9.9", True), ("2620:fe::fe", True), ("10.0.0.1", False), ("100.64.0.1", False), ("169.254.169.254", False), ("::1", False),
+                             ("fe80::1", False), ("fd00::1", False), ("::ffff:127.0.0.1", False), ("::7f00:1", False), ("2002:7f00:1::", False),
+                             ("64:ff9b::7f00:1", False), ("64:ff9b::909:909", True), ("224.0.0.1", False), ("0.0.0.0", False)):
+            self.note(text, wanted, https_get.is_public(ipaddress.ip_address(text)))
 
 
 @needs("nginx", "htpasswd", "nft", "systemd-sysusers", "curl", "ip", "nsenter", "openssl", "getent")
@@ -92,7 +116,7 @@ class Servers(OnSite):
         "local.example": ([["127.0.0.1"]], "127.0.0.1, which is of a private network"),
         "metadata.example": ([["169.254.169.254"]], "169.254.169.254, which is of a private network"),
         "private.example": ([["192.168.1.1"]], "192.168.1.1, which is of a private network"),
-        "own.example": ([["11.0.0.1"]], "11.0.0.1, which is of a private network or of this machine"),
+        "own.example": ([["11.0.0.1"]], "11.0.0.1, which is of a private network or of this machine's"),
         "both.example": ([[SERVER, "127.0.0.1"]], "127.0.0.1, which is of a private network"),
         "nobody.example": ([[OTHER]], "connect"),
         "no-name.example": ([], "its name has no address"),
@@ -251,7 +275,7 @@ class Signatures(OnSite):
         self.site.hour_later()
         self.note("it isn't said twice", {}, self.fetched())
         self.site.hour_later()
-        self.says(self.fetched("--again"), url, f"new {sha256} waits")
+        self.says(self.fetched("--again", url), url, f"new {sha256} waits")
         self.note("it waits again", {url: (None, sha256)}, self.site.held())
 
 
@@ -283,7 +307,7 @@ class Runs(OnSite):
 
     def test_one_server_with_many(self):
         """A run ends with its minute, and the next one goes on with the URLs that are left."""
-        urls = [f"https://slow.example/{number}" for number in range(16)]
+        urls = [f"https://slow.example/{number}" for number in range(8)]
         for number, url in enumerate(urls):
             self.site.serve_file("slow.example", usage_file(url), str(number))
         self.site.open({"slow.example": "limit_rate 120;"}, {})
@@ -315,7 +339,7 @@ class Runs(OnSite):
         self.site.serve_file("many.example", usage_file(urls[128]), "128")
         self.site.open({"many.example": ""}, {})
         self.store(urls, [("POST", "/files", usage_file(url)) for url in urls[:128]])
-        self.site.write("state/memory.json", json.dumps({"servers": {}, "urls": {url: {"asked": int(time.time()), "told": {}, "posted": None, "gone": []} for url in urls[:128]}}))
+        self.site.write("state/memory.json", json.dumps({"servers": {}, "urls": {url: {"asked": int(time.time()), "told": {}, "seen": []} for url in urls[:128]}}))
         self.says(self.fetched(), urls[128], "CacheFull")
         self.site.hour_later(3600)
         self.holds("it is told once", urls[128] not in self.fetched())

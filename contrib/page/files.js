@@ -91,12 +91,12 @@ function candidateDeeds(row, does) {
   const approve = (words, word) => button(
     words, verdict(word, `The file of ${row.url} is in force.`), "success",
     {disabled: true, class: "btn btn-sm btn-success approves"});
-  const reject = button(
-    "Reject",
-    () => does.change(
-      "POST", "/verdicts", {url: row.url, sha256: row.candidate.sha256, verdict: "failed"},
-      () => "The file is rejected."),
-    "outline-danger");
+  const reject = button("Reject", async () => {
+    const {sha256} = row.candidate;
+    if (!await asks(`Reject the file of ${row.url} that waits? It is taken away.`, "Reject it")) return;
+    const body = {url: row.url, sha256, verdict: "failed"};
+    await does.change("POST", "/verdicts", body, () => "The file is rejected.");
+  }, "outline-danger");
   return [
     approve("Approve, no signature checked", "waived"), approve("Approve, signature checked", "verified"),
     reject

@@ -54,8 +54,7 @@ function look(names) {
         shown.refresh(name);
         waits();
       } catch (fault) {
-        if (!(fault instanceof Fault)) throw fault;
-        reached(fault.message);
+        reached(fault instanceof Fault ? fault.message : `It can't be shown: ${fault.message}.`);
       }
     }
   });
@@ -87,7 +86,8 @@ function waits() {
 
 /** Shows the view that the address names. */
 function show() {
-  const name = location.hash.slice(1) in VIEWS ? location.hash.slice(1) : "things";
+  const asked = location.hash.slice(1);
+  const name = Object.hasOwn(VIEWS, asked) ? asked : "things";
   if (shown.view !== name) {
     const view = document.getElementById("view");
     const [title, made] = VIEWS[name];
@@ -109,6 +109,9 @@ document.getElementById("views").append(...Object.entries(VIEWS).map(
 addEventListener("hashchange", show);
 show();
 await look(LISTINGS);
+document.addEventListener("visibilitychange", () => {
+  if (document.visibilityState === "visible") look(LISTINGS);
+});
 setInterval(() => {
   if (document.visibilityState !== "visible") return;
   look([LISTINGS[turn % LISTINGS.length]]);

@@ -45,7 +45,10 @@ function pendingCell(thing, files, does) {
     text(thing.pending),
     element(
       "div", {class: "deeds"}, button("What changes", () => moveWords(thing, files, place)),
-      button("Move", () => does.change("POST", "/things", body, () => `${thing.mac} has moved.`), "primary")),
+      button("Move", async () => {
+        if (!await asks(`Move ${thing.mac} to ${thing.pending}?`, "Move it")) return;
+        await does.change("POST", "/things", body, () => `${thing.mac} has moved.`);
+      }, "primary")),
     place
   ];
 }
@@ -82,9 +85,10 @@ export function thingsView(view, tables, does) {
         tables.files ? stateOf(thing, files, due) : "",
          thing.leases.map((lease) => element("div", {}, `${lease.address}, ${living(lease.until, now)}`)),
          pendingCell(thing, files, does), deeds(thing, does)]);
-    performance.mark("first-view");
     place.replaceChildren(
       rows.length ? table(["Hardware address", "URL", "State", "Leases", "Second URL", ""], rows, "Things") :
                     element("p", {}, "No Thing has announced itself yet."));
+    // when it was painted
+    requestAnimationFrame(() => requestAnimationFrame(() => performance.mark("first-view")));
   };
 }

@@ -37,6 +37,10 @@ async function entryOf(endpoint, side, files) {
   if (endpoint.entry === null || !row?.approved) return null;
   const file = read(await octetsOf(row.approved.sha256));
   const entry = file[side].find(({number}) => number === endpoint.entry);
+  // what was listed may be older than what the manager judged by
+  if (entry?.name !== endpoint.ace || entry.acl !== endpoint.acl) {
+    throw new Fault("The file in force is another one by now.");
+  }
   return {words: sentence(entry, file.url), file};
 }
 

@@ -6,6 +6,7 @@ packets of the day or of the day before, one behind the other as one capture. Of
 import collections
 import glob
 import hashlib
+import itertools
 import os
 import struct
 import time
@@ -98,15 +99,16 @@ class Captures:
             return
         size, packets, first, last, latest = HEAD.size, 0, None, None, 0
         try:
-            with open(path, "rb") as file:
-                for second, frame in captures.frames(file.read):
-                    size, packets, last, first = size + 16 + len(frame), packets + 1, second, second if first is None else first
+            for second, frame in frames_in(path):
+                size, packets, last = size + 16 + len(frame), packets + 1, second
+                if second != latest:
+                    first = second if first is None else first
                     if second < latest - SLACK:
                         self.remarks.append(f"{path}: at {clock(latest)} the clock was set back to {clock(second)}")
                         latest = second
                     latest = max(latest, second)
-                    if of_interest(frame):
-                        self.hear(self.number + packets, second, frame)
+                if of_interest(frame):
+                    self.hear(self.number + packets, second, frame)
         except captures.Cut:
             # the last file may be under way
             if not is_last or os.path.getmtime(path) < time.time() - 60:
@@ -167,6 +169,29 @@ def of_interest(frame):
     return kind in (b"\x88\xcc", b"\x81\x00", b"\x88\xa8")
 
 
+def frames_in(path):
+    """The second and the octets of each frame of a file. Of the usual form they are read by large parts, as they are many."""
+    with open(path, "rb") as file:
+        if file.read(4) != MAGIC or file.read(20)[16:] != b"\1\0\0\0":
+            file.seek(0)
+            yield from captures.frames(file.read)
+            return
+        held, at, numbers = b"", 0, struct.Struct("<3I").unpack_from
+        while part := file.read(1 << 20):
+            held, at = held[at:] + part, 0
+            last = len(held) - 16
+            while at <= last:
+                second, _, captured = numbers(held, at)
+                if captured > captures.MOST:
+                    raise captures.Unread("a packet of the capture is too long")
+                if at + captured > last:
+                    break
+                yield second, held[at + 16:at + 16 + captured]
+                at += 16 + captured
+        if at < len(held):
+            raise captures.Cut
+
+
 def is_plain(path):
     """Whether a file's records can be taken into the run as they are."""
     with open(path, "rb") as file:
@@ -219,5 +244,4 @@ def write_joined(pieces, sink):
 def frames_of(pieces):
     """The second and the octets of each frame of the run."""
     for piece in pieces:
-        with open(piece.path, "rb") as file:
-            yield from (row for _, row in zip(range(piece.packets), captures.frames(file.read)))
+        yield from itertools.islice(frames_in(piece.path), piece.packets)

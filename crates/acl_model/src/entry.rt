@@ -84,19 +84,11 @@ pub enum Action {
 }
 
 /// An entry of an access list (RFC 8519, 4.1, `ace`). It matches a packet where each of its tests
-/// passes.
+/// passes. The tests that each packet meets stand side by side, before what is seldom read.
 #[derive(Drop)]
 pub struct Entry {
-    /// The name of its access list.
-    pub acl: Bytes,
-    /// Its own name.
-    pub name: Bytes,
     /// The IP versions that it is for.
     pub family: Family,
-    /// What it asks of the peer's address: each of them is to be met.
-    pub selectors: Listed<Selector>,
-    /// The network that is to hold the Thing's own address, where there is one.
-    pub own: Option<Prefix>,
     /// The IP protocol number, where it names one.
     pub protocol: Option<u8>,
     /// The differentiated services code point, 0 to 63, where it names one.
@@ -111,6 +103,14 @@ pub struct Entry {
     pub layer: Layer,
     /// What becomes of a packet that it matches.
     pub action: Action,
+    /// What it asks of the peer's address: each of them is to be met.
+    pub selectors: Listed<Selector>,
+    /// The network that is to hold the Thing's own address, where there is one.
+    pub own: Option<Prefix>,
+    /// The name of its access list.
+    pub acl: Bytes,
+    /// Its own name.
+    pub name: Bytes,
 }
 
 /// The entries of a usage file (RFC 8520, 3.3). The entries of each list are counted from 1.

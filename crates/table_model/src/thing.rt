@@ -29,14 +29,14 @@ pub struct Thing {
     pub mac: Mac,
     /// Its MUD URL, whose usage file it is judged by.
     pub url: MudUrl,
+    /// Whether the operator holds it: all its packets are dropped, whatever its usage file says. A
+    /// new Thing isn't held, and a hold ends with a release or with the Thing.
+    pub held: bool,
     /// Another URL that it announced later, which waits for the operator.
     pub pending: Option<MudUrl>,
     /// Its addresses with the expiries of their leases, in the order of the addresses, each once. A
     /// lease whose expiry has come may still stand here.
     pub leases: Listed<(Addr, End)>,
-    /// Whether the operator holds it: all its packets are dropped, whatever its usage file says. A
-    /// new Thing isn't held, and a hold ends with a release or with the Thing.
-    pub held: bool,
 }
 
 impl Sortable for Thing {

@@ -9,9 +9,9 @@ ghost use Rattle.acl_buckets.specs.RowBuckets.{HasRoom, AreFoundBeside, AreForgo
 
 use crate::row_parts::{make_all, make_room, number_of, part_of};
 use acl_model::Entry;
-use acl_rows::{AddressRows, FoundRow, Owner, Row, RowKey, RulePart};
+use acl_rows::{AddressRows, FoundRow, Owner, PackedAddr, Row, RowKey, RulePart};
 use base_rows::{Edit, SortedRows, Steps};
-use mud_base::{Addr, Direction, Memory};
+use mud_base::{Direction, Memory};
 use std::alloc::Global;
 use std::collections::BTreeMap;
 use std::marker::Model;
@@ -91,7 +91,7 @@ impl RowBuckets {
         owner: Owner,
         side: Direction,
         steps: &mut Steps<L>,
-    ) -> &BTreeMap<Addr, SortedRows<Row>>
+    ) -> &BTreeMap<PackedAddr, SortedRows<Row>>
         ensures groups { AreGroups result.now.entries (rows_of_side owner side self.now.rows) }
         ensures counted { steps.new ≡ steps.old + length (rows_of_side owner side self.now.rows) }
     {

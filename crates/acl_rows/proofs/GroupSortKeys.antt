@@ -12,7 +12,7 @@ use Rattle.mud_base.specs.Addresses.{addr_cmp}
 use Rattle.mud_base.specs.declared.addr.Addr.{Addr}
 use Rattle.mud_base.specs.declared.addr.Addr.TheVariants.{V4, V6}
 use Rattle.mud_base.specs.declared.packet.Direction.{Direction}
-use Rattle.mud_base.specs.contracts.addr.AddrOrd.TheImpl as addr_ord
+use Rattle.acl_rows.specs.contracts.packed.PackedAddrOrd.TheImpl as packed_ord
 use Rattle.base_rows.specs.Sortable.{sort_key_cmp, same_sort_key, is_under, rows_under}
 use Rattle.base_rows.specs.Addresses.{addr_sort_key}
 use Rattle.base_rows.proofs.SortableLaws.{sort_key_cmp_itself, sort_key_cmp_turned, same_sort_key-cmp}
@@ -30,7 +30,7 @@ use Rattle.acl_rows.proofs.Parts.{rows_under-peer}
 
 -- how the keys of a map stand to one another
 abbrev pub key_cmp : Addr → Addr → Ordering
-key_cmp = (addr_ord.ghosts).cmp
+key_cmp = (packed_ord.ghosts).cmp
 
 derived : (a b : Addr) → key_cmp a b ≡ addr_cmp a b
 unfolding addr_cmp

@@ -10,6 +10,7 @@ ghost use Rattle.acl_rows.specs.View.{is_at};
 ghost use Rattle.acl_rows.specs.ByAddress.{room_at, index_beside, until_of_row, IsRowAt, IsEditAt, IsRoomier, AreAddressesCleared, AreGroups};
 
 use crate::groups::GroupedRows;
+use crate::packed::PackedAddr;
 use crate::row::{FoundRow, Owner, Row, RowKey};
 use base_rows::{Edit, SortedRows, Steps};
 use mud_base::{Addr, Direction, Memory};
@@ -89,7 +90,10 @@ impl AddressRows {
     }
 
     /// All rows in groups, those of each address by themselves. Each row is one step.
-    pub fn all_rows<L: Ledger>(&self, steps: &mut Steps<L>) -> &BTreeMap<Addr, SortedRows<Row>>
+    pub fn all_rows<L: Ledger>(
+        &self,
+        steps: &mut Steps<L>,
+    ) -> &BTreeMap<PackedAddr, SortedRows<Row>>
         ensures groups { AreGroups result.now.entries self.now.rows }
         ensures counted { steps.new ≡ steps.old + length self.now.rows }
     {

@@ -9,6 +9,7 @@ ghost use Rattle.acl_rows.specs.SortKeys.{row_sort_key, named_sort_key};
 ghost use Rattle.acl_rows.specs.ByAddress.{until_of_row, grouped, IsCleared};
 ghost use Rattle.acl_rows.specs.Groups.{part_at, group_sort_key, has_rows, AreGrouped, HaveSameRows, AreRoomier, IsEdited};
 
+use crate::packed::PackedAddr;
 use crate::row::{FoundRow, Row, RowKey};
 use base_rows::{Edit, SortedRows, Steps, make_edits_from};
 use mud_base::{Addr, End, Memory};
@@ -17,10 +18,11 @@ use std::collections::BTreeMap;
 use std::marker::Model;
 use std::sync::ledger::Ledger;
 
-/// The groups of the addresses, in their order. Contracts see the list of them.
+/// The groups of the addresses, in their order. The keys of the map are packed, so that a look-up reads
+/// little memory. Contracts see the list of the groups.
 #[derive(Drop)]
 pub(crate) struct GroupedRows {
-    map: BTreeMap<Addr, SortedRows<Row>>,
+    map: BTreeMap<PackedAddr, SortedRows<Row>>,
 }
 
 impl Model for GroupedRows {
@@ -46,7 +48,8 @@ impl GroupedRows {
         ensures rows { result.now ≡ (part_at addr self.now).rows }
         ensures counted { steps.new ≡ steps.old + length result.now }
     {
-        match self.map.get(&addr) {
+        let at = PackedAddr::new(addr);
+        match self.map.get(&at) {
             Some(rows) => {
                 steps.add(rows.len() as u64);
                 rows.rows()
@@ -63,7 +66,8 @@ impl GroupedRows {
         ensures least { steps.old + min 1 (length (part_at key.now.addr self.now).rows) ≤ steps.new }
         ensures most { (b : ℕ) → length (part_at key.now.addr self.now).rows < 2 ^ b → steps.new ≤ steps.old + b }
     {
-        match self.map.get(&key.addr) {
+        let at = PackedAddr::new(key.addr);
+        match self.map.get(&at) {
             Some(rows) => found_in(rows, key, steps),
             None => FoundRow {
                 index: Err(0),
@@ -76,7 +80,7 @@ impl GroupedRows {
     pub(crate) fn all_rows<L: Ledger>(
         &self,
         steps: &mut Steps<L>,
-    ) -> &BTreeMap<Addr, SortedRows<Row>>
+    ) -> &BTreeMap<PackedAddr, SortedRows<Row>>
         ensures groups { result.now.entries ≡ self.now }
         ensures counted { steps.new ≡ steps.old + length (grouped self.now) }
     {
@@ -153,7 +157,7 @@ fn until_at(rows: &[Row], index: usize) -> End
 }
 
 /// Each row of the groups is one step.
-fn count_groups<L: Ledger>(groups: &BTreeMap<Addr, SortedRows<Row>>, steps: &mut Steps<L>)
+fn count_groups<L: Ledger>(groups: &BTreeMap<PackedAddr, SortedRows<Row>>, steps: &mut Steps<L>)
     ensures { steps.new ≡ steps.old + length (grouped groups.now.entries) }
 {
     for group in groups.values() {
@@ -163,7 +167,7 @@ fn count_groups<L: Ledger>(groups: &BTreeMap<Addr, SortedRows<Row>>, steps: &mut
 
 /// Where there are as many groups as this, those that are empty go. The answer is the number of
 /// groups at which to do so next: twice as many as are left.
-fn clear_groups(groups: &mut BTreeMap<Addr, SortedRows<Row>>, limit: usize) -> usize
+fn clear_groups(groups: &mut BTreeMap<PackedAddr, SortedRows<Row>>, limit: usize) -> usize
     ensures same { (owner : OwnerValue) (side : DirectionValue) → AreGrouped owner side groups.old.entries → HaveSameRows owner side groups.old.entries groups.new.entries }
     ensures cleared { IsCleared has_rows groups.old.entries groups.new.entries limit result }
 {
@@ -177,7 +181,7 @@ fn clear_groups(groups: &mut BTreeMap<Addr, SortedRows<Row>>, limit: usize) -> u
 /// Makes room for as many rows more in the group of an address, which is added where there is none.
 fn reserve_group(
     alloc: Global,
-    groups: &mut BTreeMap<Addr, SortedRows<Row>>,
+    groups: &mut BTreeMap<PackedAddr, SortedRows<Row>>,
     addr: Addr,
     more: usize,
 ) -> Result<(), Memory>
@@ -185,18 +189,19 @@ fn reserve_group(
     ensures most { length groups.new.entries ≤ length groups.old.entries + 1 }
     ensures ok { OnOk result (more ≤ (part_at addr groups.new.entries).room) }
 {
-    if let Some(rows) = groups.get_mut(&addr) {
+    let at = PackedAddr::new(addr);
+    if let Some(rows) = groups.get_mut(&at) {
         return rows.reserve(more);
     }
     let mut rows = SortedRows::new(alloc);
     rows.reserve(more)?;
-    groups.insert(addr, rows)?;
+    groups.insert(at, rows)?;
     Ok(())
 }
 
 /// Makes each of these edits from index `start` on in the group of an address.
 fn edit_group<L: Ledger>(
-    groups: &mut BTreeMap<Addr, SortedRows<Row>>,
+    groups: &mut BTreeMap<PackedAddr, SortedRows<Row>>,
     addr: Addr,
     edits: &mut SortedRows<Edit<Row>>,
     start: usize,
@@ -210,7 +215,8 @@ fn edit_group<L: Ledger>(
     ensures left { edits.new.rows ≡ take start edits.old.rows }
     ensures counted { steps.new + start ≡ steps.old + length edits.old.rows }
 {
-    match groups.get_mut(&addr) {
+    let at = PackedAddr::new(addr);
+    match groups.get_mut(&at) {
         Some(rows) => make_edits_from(rows, edits, start, steps),
         None => unreachable!(),
     }

@@ -4,6 +4,7 @@ ghost use Rattle.acl_rows.specs.ByAddress.{AreGroups};
 ghost use Rattle.acl_rows.specs.View as view;
 
 use crate::by_address::AddressRows;
+use crate::packed::PackedAddr;
 use crate::row::Row;
 use acl_model::Entry;
 use base_rows::{SortedRows, Steps};
@@ -107,7 +108,7 @@ impl<'a> RulePart<'a> {
     }
 
     /// All its rows in groups, those of each address by themselves. Each row is one step.
-    pub fn rows<L: Ledger>(&self, steps: &mut Steps<L>) -> &'a BTreeMap<Addr, SortedRows<Row>>
+    pub fn rows<L: Ledger>(&self, steps: &mut Steps<L>) -> &'a BTreeMap<PackedAddr, SortedRows<Row>>
         ensures rows { AreGroups result.now.entries self.now.rows }
         ensures counted { steps.new ≡ steps.old + length self.now.rows }
     {

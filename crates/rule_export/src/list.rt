@@ -10,7 +10,7 @@ ghost use Rattle.rule_export.specs.Resolved as spec;
 use crate::item::{Resolved, RuleNumber};
 use crate::near_networks;
 use acl_model::{DefaultRule, Entry, is_in_family, near_matches};
-use acl_rows::{Row, RulePart, RuleView};
+use acl_rows::{PackedAddr, Row, RulePart, RuleView};
 use base_rows::{SortedRows, Steps};
 use mud_base::{Addr, Family, Listed, Memory, Moment, Prefix};
 use std::alloc::Global;
@@ -102,7 +102,7 @@ fn put_groups(
     w: &Wants<'_>,
     n: u16,
     entry: &Entry,
-    groups: &BTreeMap<Addr, SortedRows<Row>>,
+    groups: &BTreeMap<PackedAddr, SortedRows<Row>>,
 ) -> Result<(), Memory>
     ensures { OnOk result (networks.new.rows
         ≡ set_rows prefix_sort_key (spec.wanted_networks w.now n entry.now (grouped groups.now.entries)) networks.old.rows) }
@@ -120,7 +120,7 @@ fn member_networks(
     w: &Wants<'_>,
     n: u16,
     entry: &Entry,
-    groups: &BTreeMap<Addr, SortedRows<Row>>,
+    groups: &BTreeMap<PackedAddr, SortedRows<Row>>,
 ) -> Result<SortedRows<Prefix>, Memory>
     ensures { IfOk result (λ networks. networks.rows ≡ spec.member_networks w.now (grouped groups.now.entries) n entry.now) }
 {
@@ -172,7 +172,7 @@ fn push_entry(
     rule: RuleNumber,
     n: u16,
     entry: &Entry,
-    groups: &BTreeMap<Addr, SortedRows<Row>>,
+    groups: &BTreeMap<PackedAddr, SortedRows<Row>>,
 ) -> Result<(), Memory>
     ensures { OnOk result (list.new ≡ list.old ++ spec.entry_items w.now (λ _. rule) (grouped groups.now.entries) (n, entry.now)) }
 {
@@ -213,7 +213,7 @@ fn push_part(
     w: &Wants<'_>,
     defaults: bool,
     part: &RulePart<'_>,
-    groups: &BTreeMap<Addr, SortedRows<Row>>,
+    groups: &BTreeMap<PackedAddr, SortedRows<Row>>,
 ) -> Result<(), Memory>
     requires { grouped groups.now.entries ≡ part.now.rows }
     ensures { OnOk result (list.new ≡ list.old ++ spec.part_items w.now (spec.rule_in defaults) part.now) }

@@ -3,6 +3,7 @@
 './build' keeps in out/seconds when each crate that was proved began and ended. TOOK is one such run from nothing.
 """
 import contextlib
+import graphlib
 import heapq
 import os
 import select
@@ -26,9 +27,11 @@ def rows(names):
 
 def most_behind(stands_on, seconds):
     """Of each crate the seconds of the longest chain that begins with it and goes up."""
+    above = {name: [other for other, below in stands_on.items() if name in below] for name in stands_on}
+    order = graphlib.TopologicalSorter(above).static_order()
     found = {}
-    for name in sorted(stands_on, key=lambda name: -len(texts.below(name))):
-        found[name] = seconds.get(name, 0) + max((found[other] for other, below in stands_on.items() if name in below), default=0)
+    for name in order:
+        found[name] = seconds.get(name, 0) + max((found[other] for other in above[name]), default=0)
     return found
 
 

@@ -258,7 +258,7 @@ class Overnight(Case):
         self.note("what was denied of it", len(refused), denied.get(("from", CLOUD, "8080", "peer")))
         self.note("the scan", {(port, SCANNER) for port in map(str, PORTS)}, {(port, peer) for side, peer, port, whose in denied if side == "to" and whose == "own"})
         self.note("a Thing of the evening", [LATE], list(told["announced"]))
-        self.note("who held it", ["anna"], [row["user"] for row in told["changes"] if "hold" in row["words"].lower()])
+        self.note("who held it", ["anna"], [row["user"] for row in told["changes"] if row["words"] == f"held {LATE}"])
         self.note("what the kernel dropped is known", 0, told["kernel"])
         page = read("report.html")
         self.holds("the page", all(words in page for words in (f"Things on {date}", URL.removeprefix("https://"), "What is proved", "anna", "20 ports from 1 to 20 of the Thing")))

@@ -3,7 +3,8 @@
 # make checks     runs the own checks of the pages and of the built program, with those that take minutes
 # make proofs     prints each clause of each public call, with the comment beside it
 # make trusted    prints the definitions that the contract of the program rests on, by chapter
-# make limits     runs into the limits that take minutes to reach, and keeps the program at work for a year
+# make limits     runs into the limits that take minutes to reach, keeps the program at work for a year, and makes a
+#                 day's page of ten million packets
 # make memory     runs the program with each allocation failing in turn
 # make twice      builds the program once more, in a folder of another name, and compares the two
 # make plants     has the prover refuse the wrong bodies in plants/, of all crates (hours) or of
@@ -45,7 +46,7 @@ trusted:
 	@checks/print trusted
 
 limits: build
-	checks/run -j "$$(nproc)" far-limits a-year
+	checks/run -j "$$(nproc)" far-limits a-year busy-day
 
 memory: build
 	checks/run -j "$$(nproc)" failing-allocations

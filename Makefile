@@ -23,8 +23,8 @@ PREFIX ?= /usr/local
 MINUTES ?= 1
 CRATES ?=
 
-# that of ./build, or else the one that the gate left
-program = $(firstword $(wildcard out/mud crates/mud/out/mud) out/mud)
+# that of ./build or the one that the gate left, whichever is newer
+program = $(firstword $(shell ls -t out/mud crates/mud/out/mud 2>/dev/null) out/mud)
 
 .PHONY: build test checks proofs trusted limits memory twice plants fuzz bench hostile install uninstall deb clean
 build:

@@ -7,6 +7,7 @@ import graphlib
 import heapq
 import os
 import select
+import shutil
 import sys
 import time
 
@@ -103,10 +104,11 @@ def tell(folder, out=sys.stderr, read=0):
     names = texts.below("mud")
     progress, last, rest = Progress(names, len(os.sched_getaffinity(0)), time.time()), None, b""
     begin, end, wait = ("\r\033[K", "", 10) if out.isatty() else ("", "\n", None)
+    columns = shutil.get_terminal_size().columns - 1 if begin else None
     began = {}
     while True:
         if last and not select.select([read], [], [], wait)[0]:
-            print(end=begin + progress.text(time.time(), last), file=out, flush=True)
+            print(end=begin + progress.text(time.time(), last)[:columns], file=out, flush=True)
             continue
         octets = os.read(read, 65536)
         if not octets:
@@ -114,7 +116,7 @@ def tell(folder, out=sys.stderr, read=0):
         *lines, rest = (rest + octets).split(b"\n")
         for name in filter(None, (progress.hear(line.decode(errors="replace"), time.time()) for line in lines)):
             last = name
-            print(end=begin + progress.text(time.time(), name) + end, file=out, flush=True)
+            print(end=begin + progress.text(time.time(), name)[:columns] + end, file=out, flush=True)
             with contextlib.suppress(OSError):
                 began[name] = os.stat(os.path.join(folder, "crates", name, "out")).st_mtime
     if last and begin:

@@ -84,7 +84,7 @@ export function changesView(view) {
           ["When", "Who", "What"],
           found.slice(0, FIRST).map((row) => [row.time.replace("T", " "), text(row.user), text(row.words)]),
           "Changes") :
-        element("p", {}, "No change is in the log of today."));
+        element("p", {}, begin > 0 ? "No such change is in what was read." : "No change is in the log of today."));
     if (found.length > FIRST)
       place.append(element("p", {class: "quiet"}, `The newest ${FIRST} of ${found.length}.`));
     if (begin > 0)

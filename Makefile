@@ -21,7 +21,8 @@ PREFIX ?= /usr/local
 MINUTES ?= 1
 CRATES ?=
 
-program = crates/mud/out/mud
+# that of ./build, or else the one that the gate left
+program = $(firstword $(wildcard out/mud crates/mud/out/mud) out/mud)
 
 .PHONY: build test checks proofs trusted limits memory twice plants fuzz bench hostile install uninstall deb clean
 build:

@@ -4,7 +4,9 @@
 # is the program's own (0 and 2 to 7), 126 where it couldn't be built, and 127 where it has to be
 # built and the toolchain isn't there.
 here=$(cd "$(dirname "$0")" && pwd) || exit 126
-program=$here/crates/mud/out/mud
+program=$here/out/mud
+# where only the gate has run, the program that it left
+[ -x "$program" ] || program=$here/crates/mud/out/mud
 if [ ! -x "$program" ] || [ -n "$(find "$here/crates" "$here/crates.txt" -name out -prune -o \
     -type f \( -name '*.rt' -o -name '*.antt' -o -name crates.txt \) -newer "$program" -print | head -n 1)" ]; then
   if ! command -v rt >/dev/null 2>&1; then

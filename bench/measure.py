@@ -13,6 +13,8 @@ HERE = os.path.dirname(os.path.dirname(os.path.abspath(__file__)))
 sys.path[:1] = [HERE, os.path.join(HERE, "bench")]
 os.chdir(HERE)
 
+from checks.program import PROGRAM  # noqa: E402 (the path comes first)
+
 BATCH = 16
 NAME = "bench/" + os.path.basename(sys.argv[0])
 # Valgrind counts an instruction of the processor that fills or copies many octets once for each octet, though it takes
@@ -27,7 +29,7 @@ def stop(text, status=1):
 
 def the_program(*tools):
     """The program that is measured, by its word or as ./build makes it; and these tools have to be there."""
-    program = os.path.abspath(sys.argv[1] if len(sys.argv) > 1 else "crates/mud/out/mud")
+    program = os.path.abspath(sys.argv[1]) if len(sys.argv) > 1 else PROGRAM
     if not os.access(program, os.X_OK):
         stop(f"no program '{program}' (./build makes it)", 2)
     for tool in tools:

@@ -12,7 +12,16 @@ import time
 
 from checks.texts import HERE
 
-PROGRAM = os.path.abspath(os.environ.get("MUD", os.path.join(HERE, "crates/mud/out/mud")))
+
+
+def built():
+    """The program of ./build, or else the one that the gate left."""
+    left = os.path.join(HERE, "crates/mud/out/mud")
+    made = os.path.join(HERE, "out/mud")
+    return made if os.path.exists(made) or not os.path.exists(left) else left
+
+
+PROGRAM = os.path.abspath(os.environ.get("MUD") or built())
 CLOSED = object()
 SECONDS = 120
 

@@ -291,6 +291,7 @@ class Taken(FaultyRuns):
 STAND_IN = """#!/bin/sh
 [ "$1" = ci ] || exit 1
 [ ! -e crates/mud_base/must-fail ] && [ -e crates/mud_base/src ] && echo "rt: mud_base proved"
+echo "rt: mud_url is kept: an earlier run on this machine proved the same files over the same libraries"
 if [ "$STATUS" = 0 ]; then
   mkdir -p crates/mud/out
   printf '#!/bin/sh\\n' >crates/mud/out/mud
@@ -336,16 +337,20 @@ class Scripts(FaultyRuns):
         said = ended.errors.decode().splitlines()
         self.note("the first line", f"build: proving {count} crates, as many side by side as there are processors and memory",
                   said[0].partition(";")[0])
-        self.note("the lines of crates", [f"build: 1 of {count} crates are proved (mud_base)"], [one for one in said if " are proved " in one])
+        lines = [re.sub(r"some \d+ left", "some left", one) for one in said if " are proved" in one]
+        self.note("the lines of crates", [f"build: 1 of {count} crates are proved; 0 minutes gone, some left (mud_base)",
+                                          f"build: 2 of {count} crates are proved, 1 of them before this run; 0 minutes gone, some left (mud_url)"], lines)
         self.note("the last line", "build: done", said[-1])
 
     def test_build_unproved(self):
         self.silent("./build where a crate isn't proved", 1, self.build("1"))
-        self.holds("there is no program", not os.path.exists(self.path("clone/crates/mud/out/mud")))
+        self.holds("there is no program", not os.path.exists(self.path("clone/out/mud")))
 
     def test_built(self):
         """Where it is built and nothing is newer: the program's own status, without the toolchain."""
-        os.mkdir(self.path("clone/crates/mud/out"))
-        shutil.copy(program.PROGRAM, self.path("clone/crates/mud/out/mud"))
-        ended = run("hear", "dhcp", input=MESSAGE, program=self.path("clone/mud"), env={"PATH": self.path("bin")})
-        self.line("./mud of a built program", 0, "lease 02:00:00:00:00:01 192.0.2.10 86400", ended)
+        for folder in ("clone/crates/mud/out", "clone/out"):
+            os.mkdir(self.path(folder))
+            shutil.copy(program.PROGRAM, self.path(folder + "/mud"))
+            ended = run("hear", "dhcp", input=MESSAGE, program=self.path("clone/mud"), env={"PATH": self.path("bin")})
+            self.line(f"./mud of a built program in {folder}", 0, "lease 02:00:00:00:00:01 192.0.2.10 86400", ended)
+            shutil.rmtree(self.path(folder))

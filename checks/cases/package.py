@@ -87,10 +87,10 @@ def of_examples(folder):
 class Package(ProgramCase):
     def copied(self, name):
         """A copy of what is packaged, in a folder of this name, with the program that is tried."""
-        os.makedirs(self.path(name + "/crates/mud/out"))
+        os.makedirs(self.path(name + "/out"))
         for path in COPIED:
             (shutil.copytree if os.path.isdir(path) else shutil.copy)(path, self.path(f"{name}/{path}"))
-        return shutil.copy(program.PROGRAM, self.path(name + "/crates/mud/out/mud"))
+        return shutil.copy(program.PROGRAM, self.path(name + "/out/mud"))
 
     def make(self, name, *words):
         ended = run("-s", "-C", self.path(name), *words, program="make")

@@ -23,4 +23,4 @@ class TwoBuilds(ProgramCase):
             shutil.copy(name, f"{other}/{name}")
         ended = subprocess.run([other + "/build"], stdin=subprocess.DEVNULL, stderr=subprocess.PIPE, check=False)
         self.note("its status", (0, "build: done"), (ended.returncode, ended.stderr.decode().splitlines()[-1]))
-        self.holds("the programs have the same octets", program.read("crates/mud/out/mud", other) == program.read(program.PROGRAM))
+        self.holds("the programs have the same octets", program.read("out/mud", other) == program.read(program.PROGRAM))

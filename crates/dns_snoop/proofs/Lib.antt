@@ -1,4 +1,5 @@
 mod Examples
+pub mod JumpLaws
 pub mod NameLaws
 pub mod ObservedLaws
 pub mod OnLiterals

@@ -189,7 +189,7 @@ unfolding chain_behind
 pointer_beyond zero at target message beyond = refl
 pointer_beyond (suc run) at target message beyond = rw (le-ltb target (suc run) beyond) refl
 
-pointer_below : (run at target : ℕ) (message : List ℕ) → target < run → chain_behind run message run (Pointer at target) ≡ chained (run_at message target) (chain_behind target message target)
+pub pointer_below : (run at target : ℕ) (message : List ℕ) → target < run → chain_behind run message run (Pointer at target) ≡ chained (run_at message target) (chain_behind target message target)
 unfolding chain_behind
 pointer_below zero at target message below = absurd (omega arith)
 pointer_below (suc run) at target message below =

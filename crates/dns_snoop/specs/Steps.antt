@@ -1,5 +1,5 @@
--- What the first octets do to a run, and a run to the name that is read.
-use Rattle.std.specs.Prelude.{◌≡◌, ℕ, ◌+◌, ◌≤◌, List, [], ◌∷◌, ◌++◌, length, Result, Ok, Err}
+-- What the first octets do to a run, a run to the name that is read, and a jump to a pointer.
+use Rattle.std.specs.Prelude.{◌≡◌, ℕ, ◌+◌, ◌<◌, ◌≤◌, List, [], ◌∷◌, ◌++◌, length, slice_index, Result, Ok, Err}
 use Rattle.mud_base.specs.Faults.{row_at, unless}
 use Rattle.dns_snoop.specs.declared.fault.DnsFault.{DnsFault}
 use Rattle.dns_snoop.specs.declared.fault.DnsFault.TheVariants as faults
@@ -7,7 +7,7 @@ use Rattle.dns_snoop.specs.declared.label.Step.{Step}
 use Rattle.dns_snoop.specs.declared.label.Step.TheVariants as step
 use Rattle.dns_snoop.specs.declared.name.RunEnd.{RunEnd}
 use Rattle.dns_snoop.specs.declared.name.RunEnd.TheVariants.{End, Pointer}
-use Rattle.dns_snoop.specs.Names.{Run, Chain, ended, with_label, run_from, first_beyond, text_of}
+use Rattle.dns_snoop.specs.Names.{Run, Chain, ended, with_label, run_from, chain_behind, first_beyond, text_of}
 
 abbrev pub IsStep : ℕ → List ℕ → Step → Type 0
 IsStep offset octets (step.Fault fault) = run_from 0 offset octets ≡ ended (Err fault)
@@ -38,3 +38,12 @@ run_answer text run = unless (row_at faults.NameLong (first_beyond (1 + length t
 -- what a chain makes of the text before it
 unfoldable pub chain_answer : List ℕ → Chain → Result (List ℕ) DnsFault
 chain_answer text chain = unless (row_at faults.NameLong (first_beyond (1 + length text) chain.labels) ∷ chain.fault ∷ []) (Ok (text ++ text_of chain.labels))
+
+-- A jump from an offset to one before it, or to itself: a pointer to either has the same behind it.
+pub record IsJump (message : List ℕ) (from to : ℕ) : Type 0 where
+  pub before : to ≤ from
+  pub same : (start at : ℕ) → from < start → chain_behind start message start (Pointer at from) ≡ chain_behind start message start (Pointer at to)
+
+-- the jumps from the first so many offsets
+pub record AreJumps (message jumps : List ℕ) : Type 0 where
+  pub each : (i : ℕ) → i < length jumps → IsJump message i (slice_index jumps i)

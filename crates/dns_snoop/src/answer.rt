@@ -2,6 +2,7 @@
 ghost use Rattle.std.specs.Prelude.{◌≡◌, ◌+◌, ◌≤◌, length, false, IfOk, IfSome, not, ◌==◌, ◌&&◌, ◌||◌};
 ghost use Rattle.dns_snoop.specs.Records as spec;
 ghost use Rattle.dns_snoop.specs.Records.{class_in, type_a, type_aaaa};
+ghost use Rattle.dns_snoop.specs.Steps.{AreJumps};
 
 use crate::fault::DnsFault;
 use crate::name::read_name;
@@ -65,14 +66,22 @@ fn is_amiss(kind: u16, class: u16, len: usize) -> bool
 /// The name that the content is, where the type is that of an alias, else the empty name. None
 /// where the content isn't of its type's form.
 #[tactic(auto, unfolding(crate::specs::Records::alias_in))]
-fn alias_in(message: &[u8], kind: u16, class: u16, offset: usize, len: usize) -> Option<ShortText>
-    requires { offset + len ≤ length message.now }
+fn alias_in(
+    message: &[u8],
+    jumps: &[u16],
+    kind: u16,
+    class: u16,
+    offset: usize,
+    len: usize,
+) -> Option<ShortText>
+    requires jumps { AreJumps message.now jumps.now }
+    requires content { offset + len ≤ length message.now }
     ensures alias { result ≡ spec.alias_in message.now kind class offset len }
     ensures four { IfSome result (λ _. kind ≡ type_a → class ≡ class_in → len ≡ 4) }
     ensures sixteen { IfSome result (λ _. kind ≡ type_aaaa → class ≡ class_in → len ≡ 16) }
 {
     if kind == CNAME {
-        let Ok(name) = read_name(message, offset) else {
+        let Ok(name) = read_name(message, jumps, offset) else {
             return None;
         };
         if name.behind != offset + len {
@@ -88,14 +97,15 @@ fn alias_in(message: &[u8], kind: u16, class: u16, offset: usize, len: usize) ->
 
 /// The answer at an offset.
 #[tactic(auto, unfolding(crate::specs::Records::record_at))]
-pub(crate) fn read_record(message: &[u8], offset: usize) -> Result<Record, DnsFault>
-    requires { offset ≤ length message.now }
+pub(crate) fn read_record(message: &[u8], jumps: &[u16], offset: usize) -> Result<Record, DnsFault>
+    requires jumps { AreJumps message.now jumps.now }
+    requires start { offset ≤ length message.now }
     ensures read { result ≡ spec.record_at message.now offset }
     ensures within { IfOk result (λ r. r.offset + r.len ≤ length message.now) }
     ensures four { IfOk result (λ r. r.kind ≡ type_a → r.class ≡ class_in → r.len ≡ 4) }
     ensures sixteen { IfOk result (λ r. r.kind ≡ type_aaaa → r.class ≡ class_in → r.len ≡ 16) }
 {
-    let owner = read_name(message, offset)?;
+    let owner = read_name(message, jumps, offset)?;
     let at = owner.behind;
     if message.len() - at < FIELDS_LEN {
         return Err(DnsFault::Cut(offset));
@@ -108,7 +118,7 @@ pub(crate) fn read_record(message: &[u8], offset: usize) -> Result<Record, DnsFa
     if message.len() - content < len {
         return Err(DnsFault::Cut(offset));
     }
-    let Some(alias) = alias_in(message, kind, class, content, len) else {
+    let Some(alias) = alias_in(message, jumps, kind, class, content, len) else {
         return Err(DnsFault::Cut(offset));
     };
     Ok(Record {

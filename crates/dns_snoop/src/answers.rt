@@ -5,9 +5,11 @@ ghost use Rattle.dns_snoop.specs.Messages as spec;
 ghost use Rattle.dns_snoop.specs.Observed.{IsObservable};
 ghost use Rattle.dns_snoop.specs.Records.{type_a, type_aaaa};
 ghost use Rattle.dns_snoop.specs.Rows.{Answered};
+ghost use Rattle.dns_snoop.specs.Steps.{AreJumps};
 
 use crate::answer::{A, AAAA, IN};
 use crate::fault::DnsFault;
+use crate::jumps::read_jumps;
 use crate::name::read_name;
 use crate::rows::read_rows;
 use mud_base::{Addr, Bytes, Listed, ShortText, big_16};
@@ -66,13 +68,14 @@ fn is_answer(payload: &[u8]) -> bool
 
 /// The question of a message.
 #[tactic(auto, unfolding(crate::specs::Messages::question_of))]
-fn read_question(payload: &[u8]) -> Result<Question, DnsFault>
-    requires { 12 ≤ length payload.now }
+fn read_question(payload: &[u8], jumps: &[u16]) -> Result<Question, DnsFault>
+    requires jumps { AreJumps payload.now jumps.now }
+    requires header { 12 ≤ length payload.now }
     ensures read { result ≡ spec.question_of payload.now }
     ensures within { IfOk result (λ q. q.behind ≤ length payload.now) }
     ensures short { IfOk result (λ q. length q.name ≤ 254) }
 {
-    let name = read_name(payload, HEADER_LEN)?;
+    let name = read_name(payload, jumps, HEADER_LEN)?;
     if payload.len() - name.behind < QUESTION_FIELDS_LEN {
         return Err(DnsFault::Cut(HEADER_LEN));
     }
@@ -140,8 +143,9 @@ fn asked_by(question: &Question, name: &[u8]) -> Option<u16>
 /// Each row is one that a table of names may be asked to keep: its seconds are those of the answer,
 /// or of an alias on the way to it where these are fewer.
 ///
-/// It takes memory for the name and for the rows alone. There are no more rows than answers, and an
-/// answer that gives one has 15 octets at least.
+/// It takes memory for the name and for the rows, and, where the message has more than the 1,472
+/// octets of one frame of Ethernet, two octets for each of its first 16,384. There are no more rows
+/// than answers, and an answer that gives one has 15 octets at least.
 #[tactic(auto, unfolding(crate::specs::Messages::answers_of))]
 pub fn read_answers(alloc: Global, payload: &[u8]) -> Result<Answers, DnsFault>
     ensures read { Answered result (spec.answers_of payload.now) }
@@ -153,12 +157,22 @@ pub fn read_answers(alloc: Global, payload: &[u8]) -> Result<Answers, DnsFault>
     if !is_answer(payload) {
         return Err(DnsFault::NotAnswer);
     }
-    let question = read_question(payload)?;
+    let jumps = read_jumps(alloc, payload)?;
+    let jumps = jumps.as_slice();
+    let question = read_question(payload, jumps)?;
     let dots = dots_of(&question.name);
     let name = behind_first(&dots);
     let asked = asked_by(&question, name);
     let count = big_16(payload, ANSWERS_OFFSET);
-    let rows = read_rows(alloc, payload, count, question.behind, asked, question.name)?;
+    let rows = read_rows(
+        alloc,
+        payload,
+        jumps,
+        count,
+        question.behind,
+        asked,
+        question.name,
+    )?;
     let name = Bytes::new(alloc, name)?;
     Ok(Answers { name, rows })
 }

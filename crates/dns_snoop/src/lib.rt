@@ -5,6 +5,7 @@
 mod answer;
 pub mod answers;
 pub mod fault;
+mod jumps;
 mod label;
 pub mod laws;
 mod name;

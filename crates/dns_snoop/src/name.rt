@@ -2,9 +2,10 @@
 ghost use Rattle.std.specs.Prelude.{◌≡◌, ◌≤◌, length, IfOk};
 ghost use Rattle.dns_snoop.specs.Names as spec;
 ghost use Rattle.dns_snoop.specs.Names.{run_at, chain_behind};
-ghost use Rattle.dns_snoop.specs.Steps.{run_answer, chain_answer, with_end, with_text};
+ghost use Rattle.dns_snoop.specs.Steps.{AreJumps, run_answer, chain_answer, with_end, with_text};
 
 use crate::fault::DnsFault;
+use crate::jumps::behind_jump;
 use crate::label::{Step, add_label, first_step};
 use mud_base::ShortText;
 
@@ -57,9 +58,17 @@ fn read_run(message: &[u8], start: usize, text: &mut ShortText) -> Result<RunEnd
 }
 
 /// Reads the runs to which pointers lead behind a run that begins at this offset and ends so. Each
-/// of them begins before the one before it, so no pointer is met twice.
+/// of them begins before the one before it, so no pointer is met twice; of pointers to pointers only
+/// the last is met where there are jumps.
 #[tactic(auto, using(crate::proofs::Walks::chain_end_here, crate::proofs::Walks::chain_pointer_here, crate::proofs::Walks::chain_err_here, crate::proofs::Walks::chain_ok_here))]
-fn follow(message: &[u8], start: usize, first: RunEnd, text: &mut ShortText) -> Result<(), DnsFault>
+fn follow(
+    message: &[u8],
+    jumps: &[u16],
+    start: usize,
+    first: RunEnd,
+    text: &mut ShortText,
+) -> Result<(), DnsFault>
+    requires jumps { AreJumps message.now jumps.now }
     requires start { start ≤ length message.now }
     requires short { length text.old ≤ 254 }
     ensures read { with_text text.new result ≡ chain_answer text.old (chain_behind start message.now start first) }
@@ -74,6 +83,7 @@ fn follow(message: &[u8], start: usize, first: RunEnd, text: &mut ShortText) -> 
         if target >= run {
             return Err(DnsFault::Pointer(at));
         }
+        let target = behind_jump(jumps, target);
         last = read_run(message, target, text)?;
         run = target;
     }
@@ -93,15 +103,16 @@ fn behind_run(end: RunEnd) -> usize
 
 /// The name at an offset.
 #[tactic(auto, unfolding(crate::specs::Names::read_name_of))]
-pub(crate) fn read_name(message: &[u8], offset: usize) -> Result<ReadName, DnsFault>
-    requires { offset ≤ length message.now }
+pub(crate) fn read_name(message: &[u8], jumps: &[u16], offset: usize) -> Result<ReadName, DnsFault>
+    requires jumps { AreJumps message.now jumps.now }
+    requires start { offset ≤ length message.now }
     ensures read { result ≡ spec.read_name_of message.now offset }
     ensures within { IfOk result (λ name. name.behind ≤ length message.now) }
     ensures short { IfOk result (λ name. length name.text ≤ 254) }
 {
     let mut text = ShortText::new();
     let first = read_run(message, offset, &mut text)?;
-    follow(message, offset, first, &mut text)?;
+    follow(message, jumps, offset, first, &mut text)?;
     let behind = behind_run(first);
     Ok(ReadName { text, behind })
 }

@@ -3,6 +3,7 @@ ghost use Rattle.std.specs.Prelude.{◌≡◌, ◌+◌, ◌≤◌, ◌≢◌, �
 ghost use Rattle.dns_snoop.specs.Records as spec;
 ghost use Rattle.dns_snoop.specs.Records.{records_from, class_in, type_a, type_aaaa};
 ghost use Rattle.dns_snoop.specs.Rows.{Answered, collected, bound_with, row_if, alias_after, least_after};
+ghost use Rattle.dns_snoop.specs.Steps.{AreJumps};
 ghost use Rattle.mud_base.specs.declared.addr.Addr.TheVariants.{V6, V4};
 ghost use Rattle.mud_base.specs.Numbers.{big_32, big_128};
 
@@ -117,11 +118,13 @@ fn add_row(
 pub(crate) fn read_rows(
     alloc: Global,
     message: &[u8],
+    jumps: &[u16],
     count: u16,
     start: usize,
     asked: Option<u16>,
     name: ShortText,
 ) -> Result<Listed<(Addr, u32)>, DnsFault>
+    requires jumps { AreJumps message.now jumps.now }
     requires start { start ≤ length message.now }
     requires kind { IfSome asked (λ kind. (kind ≡ type_a) ⊎ (kind ≡ type_aaaa)) }
     ensures { Answered result (collected message.now asked [] name None (records_from count message.now start)) }
@@ -132,7 +135,7 @@ pub(crate) fn read_rows(
     let mut offset = start;
     let mut left = count;
     'answers: while left > 0 {
-        let answer = read_record(message, offset)?;
+        let answer = read_record(message, jumps, offset)?;
         let bound = bound_with(least, answer.ttl);
         add_row(&mut rows, message, &answer, asked, &alias, bound)?;
         least = least_after(&answer, &alias, least);

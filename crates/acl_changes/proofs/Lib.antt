@@ -10,6 +10,7 @@ pub mod FreshLaws
 pub mod Groups
 pub mod Halves
 pub mod LeastExpiries
+mod Looks
 pub mod Loops
 pub mod OneEdit
 pub mod Patches

@@ -16,15 +16,17 @@ use Rattle.acl_rows.specs.declared.row.RowKey.{RowKey}
 use Rattle.acl_rows.specs.Rows.{Slots, rows_of}
 use Rattle.acl_changes.specs.Touched.{holder_touches, with_edits}
 
+-- what is kept, the bindings that go and come, and the edits by which they do
 pub record ChangeState : Type 0 where
   pub slots : Slots
   pub bindings : List Binding
   pub rows : List Row
   pub gone : List Binding
   pub come : List Binding
+  pub edits : List (Edit Binding)
 
-abbrev pub change_state : Slots → List Binding → List Row → List Binding → List Binding → ChangeState
-change_state slots bindings rows gone come = record { slots = slots; bindings = bindings; rows = rows; gone = gone; come = come }
+abbrev pub change_state : Slots → List Binding → List Row → List Binding → List Binding → List (Edit Binding) → ChangeState
+change_state slots bindings rows gone come edits = record { slots = slots; bindings = bindings; rows = rows; gone = gone; come = come; edits = edits }
 
 -- the rows that are kept are those of the policies and bindings, and with these edits the bindings have gone and come
 pub record IsOver (slots : Slots) (bindings : List Binding) (rows : List Row) (gone come : List Binding) (edits : List (Edit Binding)) : Type 0 where

@@ -1,9 +1,14 @@
 -- The steps of what a change touches.
-use Rattle.std.specs.Prelude.{◌≡◌, ℕ, ◌+◌, ◌*◌, ◌≤◌, min, List, length, sum_by, Option, Some, None}
+use Rattle.std.specs.Prelude.{◌≡◌, ℕ, ◌+◌, ◌*◌, ◌≤◌, min, ◌&&◌, List, [], ◌∷◌, length, sum_by, Option, Some, None, is_some, if◌then◌else◌}
+use Rattle.mud_base.specs.declared.addr.Addr.{Addr}
 use Rattle.mud_base.specs.declared.packet.Direction.{Direction}
 use Rattle.acl_model.specs.declared.binding.MemberKey.{MemberKey}
 use Rattle.acl_model.specs.declared.binding.Binding.{Binding}
 use Rattle.acl_model.specs.declared.entry.Entry.{Entry}
+use Rattle.acl_model.specs.Keys.{is_membered}
+use Rattle.acl_model.specs.Match.{is_in_family}
+use Rattle.acl_model.specs.SortKeys.{key_kind, key_text, text_sort_key, binding_sort_key}
+use Rattle.acl_model.specs.Changes.{bound_until}
 use Rattle.acl_model.specs.FirstMatch.{entries_of}
 use Rattle.acl_model.specs.Policies.{UrlPolicy}
 use Rattle.acl_rows.specs.declared.row.Owner.{Owner}
@@ -12,6 +17,10 @@ use Rattle.acl_rows.specs.declared.row.RowKey.{RowKey}
 use Rattle.acl_rows.specs.Rows.{Slots, Holder, member_keys, entry_at}
 use Rattle.acl_rows.specs.ByAddress.{rows_of_peer}
 use Rattle.acl_buckets.specs.BindingBuckets.{bindings_of_key}
+use Rattle.base_rows.specs.Sortable.{row_at, rows_under}
+use Rattle.base_rows.specs.Edits.{edit_sort_key}
+use Rattle.acl_changes.specs.Keys.{sort_key_of_text}
+use Rattle.acl_changes.specs.Change.{ChangeState, after}
 use Rattle.acl_changes.specs.Policies.{AllHeld}
 
 -- the steps of a key, and none where there is none
@@ -60,3 +69,27 @@ least_look bindings b = min 1 (length (bindings_of_key b.key bindings))
 -- the same of these, together
 unfoldable pub least_looks : List Binding → List Binding → ℕ
 least_looks bindings bs = sum_by (least_look bindings) bs
+
+-- ---- What an entry looks for
+
+-- the least number of steps in which the binding of a key and an address is looked for: none where an edit is of its sort
+-- key, or where the key has no bindings
+unfoldable pub text_look : ChangeState → ℕ → List ℕ → Addr → ℕ
+text_look c kind text a =
+    if is_some (row_at (edit_sort_key binding_sort_key) (sort_key_of_text kind text a) c.edits)
+    then 0
+    else min 1 (length (rows_under binding_sort_key (text_sort_key kind text) c.bindings))
+
+-- the same of a selector's key; a selector with no key asks for none
+unfoldable pub key_look : ChangeState → Addr → Option MemberKey → ℕ
+key_look c a None = 0
+key_look c a (Some key) = text_look c (key_kind key) (key_text key) a
+
+-- the same of these keys, one after the other up to the first that isn't bound to the address after the change
+unfoldable pub key_looks : ChangeState → Addr → List MemberKey → ℕ
+key_looks c a [] = 0
+key_looks c a (key ∷ keys) = key_look c a (Some key) + (if is_some (bound_until (after c) key a) then key_looks c a keys else 0)
+
+-- the same of the keys of an entry, where it has some and is for addresses of this version
+unfoldable pub entry_look : ChangeState → List ℕ → Entry → Addr → ℕ
+entry_look c url entry a = if is_membered entry && is_in_family entry.family a then key_looks c a (member_keys url entry) else 0

@@ -16,10 +16,8 @@ use std::sync::ledger::Ledger;
 /// From this number of bindings on, each half of them is planned by itself.
 const MANY: usize = 16;
 
-// fewer bindings than that move one another's edits, 120 at most
-const _: () = prove!(MANY <= 16);
-
-/// Adds the edit of each of these bindings, which come or go, to those that are planned.
+/// Adds the edit of each of these bindings, which come or go, to those that are planned. They are few,
+/// since each may move the edits of the others.
 fn plan_each<L: Ledger>(
     bindings: &BindingBuckets,
     changed: &[Binding],
@@ -27,6 +25,7 @@ fn plan_each<L: Ledger>(
     edits: &mut SortedRows<Edit<Binding>>,
     steps: &mut Steps<L>,
 ) -> Result<(), Memory>
+    requires few { length changed.now < 16 }
     ensures ok { OnOk result (edits.new.rows
         ≡ set_rows (edit_sort_key binding_sort_key) (map (binding_edit bindings.now.rows comes) changed.now) edits.old.rows) }
     ensures looked { OnOk result (steps.old + least_looks bindings.now.rows changed.now ≤ steps.new) }

@@ -4,10 +4,12 @@ ghost use Rattle.std.specs.Option.{option_map};
 ghost use Rattle.std.specs.List.{filter_map};
 ghost use Rattle.base_rows.specs.Sortable.{row_at, set_row, rows_under};
 ghost use Rattle.mud_url.specs.Url.{host_of};
+ghost use Rattle.acl_model.specs.declared.entry.Entry.{Entry as EntryValue};
 ghost use Rattle.acl_model.specs.Keys.{key_of};
 ghost use Rattle.acl_model.specs.SortKeys.{binding_sort_key, member_sort_key, text_sort_key};
 ghost use Rattle.acl_model.specs.Changes.{for_ever, until_of, replaced};
 ghost use Rattle.acl_model.specs.FirstMatch.{entries_of};
+ghost use Rattle.acl_model.specs.Match.{is_in_family};
 ghost use Rattle.acl_model.specs.Policies.{url_policy};
 ghost use Rattle.base_rows.specs.Edits.{edit, edit_sort_key, edited, row_after};
 ghost use Rattle.acl_rows.specs.SortKeys.{row_sort_key, named_sort_key};
@@ -20,7 +22,7 @@ ghost use Rattle.acl_changes.specs.Touched as touched;
 ghost use Rattle.acl_changes.specs.Keys.{sort_key_of_text};
 ghost use Rattle.acl_changes.specs.Fresh.{AreBoundFirst};
 ghost use Rattle.acl_changes.specs.Change.{expiry_in, met_expiry, expiry_of_row, after, more_edits, slot_touches, change_state};
-ghost use Rattle.acl_changes.specs.Steps.{key_steps, least_step, least_steps, HolderFits};
+ghost use Rattle.acl_changes.specs.Steps.{key_steps, least_step, least_steps, text_look, key_look, key_looks, entry_look, HolderFits};
 ghost use Rattle.acl_changes.specs.Policies.{HasCounts, AllHeld};
 
 use crate::policies::{Held, HeldDefaults};
@@ -92,7 +94,7 @@ impl<'a> Model for Change<'a> {
 
     ghost Value = { ChangeState };
 
-    ghost view = { λ c. record { slots = c.slots.now; bindings = c.bindings.now.rows; rows = c.rows.now.rows; gone = c.gone.now; come = c.come.now } };
+    ghost view = { λ c. record { slots = c.slots.now; bindings = c.bindings.now.rows; rows = c.rows.now.rows; gone = c.gone.now; come = c.come.now; edits = c.edits.now.rows } };
 
     ghost invariant = { λ c. IsOver c.slots.now c.bindings.now.rows c.rows.now.rows c.gone.now c.come.now c.edits.now.rows };
 }
@@ -129,6 +131,7 @@ impl<'a> Change<'a> {
     /// first: the edits are the call's own, so that is no step.
     fn bound_expiry<L: Ledger>(&self, key: &BoundKey<'_>, steps: &mut Steps<L>) -> Option<End>
         ensures value { result ≡ expiry_in (sort_key_of_text key.entry.now.key.kind key.entry.now.key.text.now key.entry.now.addr) (after self.now) }
+        ensures looked { steps.old + text_look self.now key.entry.now.key.kind key.entry.now.key.text.now key.entry.now.addr ≤ steps.new }
         ensures least { steps.old ≤ steps.new }
         ensures most { (b : ℕ) → length self.now.bindings < 2 ^ b → steps.new ≤ steps.old + b }
     {
@@ -153,6 +156,7 @@ impl<'a> Change<'a> {
     ) -> Option<End>
         requires { host.now ≡ host_of url.now }
         ensures value { result ≡ met_expiry (after self.now) addr expiry (key_of url.now selector.now) }
+        ensures looked { steps.old + key_look self.now addr (key_of url.now selector.now) ≤ steps.new }
         ensures least { steps.old ≤ steps.new }
         ensures most { (b : ℕ) → length self.now.bindings < 2 ^ b → steps.new ≤ steps.old + key_steps b (key_of url.now selector.now) }
     {
@@ -178,6 +182,7 @@ impl<'a> Change<'a> {
     ) -> Option<End>
         requires { host.now ≡ host_of url.now }
         ensures value { result ≡ spec.least_expiry (after self.now) addr first (filter_map (key_of url.now) selectors.now) }
+        ensures looked { steps.old + key_looks self.now addr (filter_map (key_of url.now) selectors.now) ≤ steps.new }
         ensures least { steps.old ≤ steps.new }
         ensures most { (b : ℕ) → length self.now.bindings < 2 ^ b → steps.new ≤ steps.old + length (filter_map (key_of url.now) selectors.now) * b }
     {
@@ -204,6 +209,7 @@ impl<'a> Change<'a> {
     ) -> Option<End>
         requires { host.now ≡ host_of url.now }
         ensures value { result ≡ spec.entry_expiry (after self.now) url.now entry.now addr }
+        ensures looked { steps.old + entry_look self.now url.now entry.now addr ≤ steps.new }
         ensures least { steps.old ≤ steps.new }
         ensures most { (b : ℕ) → length self.now.bindings < 2 ^ b → steps.new ≤ steps.old + length (spec.member_keys url.now entry.now) * b }
     {
@@ -228,6 +234,7 @@ impl<'a> Change<'a> {
         requires host { host.now ≡ host_of url.now }
         requires first { AreBoundFirst (after self.now) url.now entry.now behind.now (binding.now ∷ []) }
         ensures value { result ≡ spec.entry_expiry (after self.now) url.now entry.now binding.now.addr }
+        ensures looked { is_in_family entry.now.family binding.now.addr ≡ true → steps.old + key_looks self.now binding.now.addr (filter_map (key_of url.now) behind.now) ≤ steps.new }
         ensures least { steps.old ≤ steps.new }
         ensures most { (b : ℕ) → length self.now.bindings < 2 ^ b → steps.new ≤ steps.old + length (spec.member_keys url.now entry.now) * b }
     {
@@ -268,6 +275,8 @@ impl<'a> Change<'a> {
         requires held { spec.held_by self.now.slots holding.now.0 ≡ Some holding.now.1 }
         requires stands { is_some (spec.entry_at spot.now.number (entries_of spot.now.side holding.now.1.policy)) ≡ true }
         ensures ok { OnOk result (edits.new.rows ≡ more_edits self.now (row_key holding.now.0 spot.now.side addr spot.now.number ∷ []) edits.old.rows) }
+        ensures looked { (entry : EntryValue) → spec.entry_at spot.now.number (entries_of spot.now.side holding.now.1.policy) ≡ Some entry
+            → steps.old + entry_look self.now holding.now.1.url entry addr + least_step self.now.rows (row_key holding.now.0 spot.now.side addr spot.now.number) ≤ steps.new }
         ensures least { steps.old + least_step self.now.rows (row_key holding.now.0 spot.now.side addr spot.now.number) ≤ steps.new }
         ensures most { (b k u : ℕ) → length self.now.bindings < 2 ^ b → length self.now.rows < 2 ^ k
             → HolderFits holding.now b k u → steps.new ≤ steps.old + u }
@@ -425,7 +434,7 @@ impl<'a> Change<'a> {
     ) -> Change<'a>
         requires kept { rows.now.rows ≡ spec.rows_of slots.now bindings.now.rows }
         requires made { edited binding_sort_key edits.now.rows bindings.now.rows ≡ replaced gone.now come.now bindings.now.rows }
-        ensures { result ≡ change_state slots.now bindings.now.rows rows.now.rows gone.now come.now }
+        ensures { result ≡ change_state slots.now bindings.now.rows rows.now.rows gone.now come.now edits.now.rows }
     {
         Change {
             slots,

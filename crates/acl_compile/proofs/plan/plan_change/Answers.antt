@@ -27,22 +27,22 @@ returns-in_err-binding_edits-clause-most g c =
 pub returns-in_err-row_edits-clause-most : goal.returns-in_err-row_edits-clause-most
 returns-in_err-row_edits-clause-most g c =
     member_most c.args.slots.now c.args.bindings.now.rows c.args.rows.now.rows c.args.gone.now c.args.come.now c.args.steps.now c.edits_of.new.steps c.plan.new.steps c.edits_of.ensures.most
-    (most_moved c.new-change.result (change_state c.args.slots.now c.args.bindings.now.rows c.args.rows.now.rows c.args.gone.now c.args.come.now) c.new-change.ensures c.edits_of.new.steps c.plan.new.steps c.plan.ensures.most)
+    (most_moved c.new-change.result (change_state c.args.slots.now c.args.bindings.now.rows c.args.rows.now.rows c.args.gone.now c.args.come.now c.in_ok-binding_edits.binding_edits.rows) c.new-change.ensures c.edits_of.new.steps c.plan.new.steps c.plan.ensures.most)
 
 pub returns-in_err-make_room-clause-most : goal.returns-in_err-make_room-clause-most
 returns-in_err-make_room-clause-most g c =
     member_most c.args.slots.now c.args.bindings.now.rows c.args.rows.now.rows c.args.gone.now c.args.come.now c.args.steps.now c.edits_of.new.steps c.plan.new.steps c.edits_of.ensures.most
-    (most_moved c.new-change.result (change_state c.args.slots.now c.args.bindings.now.rows c.args.rows.now.rows c.args.gone.now c.args.come.now) c.new-change.ensures c.edits_of.new.steps c.plan.new.steps c.plan.ensures.most)
+    (most_moved c.new-change.result (change_state c.args.slots.now c.args.bindings.now.rows c.args.rows.now.rows c.args.gone.now c.args.come.now c.in_ok-binding_edits.binding_edits.rows) c.new-change.ensures c.edits_of.new.steps c.plan.new.steps c.plan.ensures.most)
 
 pub returns-in_err-make_room-2-clause-most : goal.returns-in_err-make_room-2-clause-most
 returns-in_err-make_room-2-clause-most g c =
     member_most c.args.slots.now c.args.bindings.now.rows c.args.rows.now.rows c.args.gone.now c.args.come.now c.args.steps.now c.edits_of.new.steps c.plan.new.steps c.edits_of.ensures.most
-    (most_moved c.new-change.result (change_state c.args.slots.now c.args.bindings.now.rows c.args.rows.now.rows c.args.gone.now c.args.come.now) c.new-change.ensures c.edits_of.new.steps c.plan.new.steps c.plan.ensures.most)
+    (most_moved c.new-change.result (change_state c.args.slots.now c.args.bindings.now.rows c.args.rows.now.rows c.args.gone.now c.args.come.now c.in_ok-binding_edits.binding_edits.rows) c.new-change.ensures c.edits_of.new.steps c.plan.new.steps c.plan.ensures.most)
 
 pub returns-clause-most : goal.returns-clause-most
 returns-clause-most g c =
     member_most c.args.slots.now c.args.bindings.now.rows c.args.rows.now.rows c.args.gone.now c.args.come.now c.args.steps.now c.edits_of.new.steps c.plan.new.steps c.edits_of.ensures.most
-    (most_moved c.new-change.result (change_state c.args.slots.now c.args.bindings.now.rows c.args.rows.now.rows c.args.gone.now c.args.come.now) c.new-change.ensures c.edits_of.new.steps c.plan.new.steps c.plan.ensures.most)
+    (most_moved c.new-change.result (change_state c.args.slots.now c.args.bindings.now.rows c.args.rows.now.rows c.args.gone.now c.args.come.now c.in_ok-binding_edits.binding_edits.rows) c.new-change.ensures c.edits_of.new.steps c.plan.new.steps c.plan.ensures.most)
 
 pub returns-clause-ok : goal.returns-clause-ok
 unfolding after

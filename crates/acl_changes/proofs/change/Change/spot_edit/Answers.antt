@@ -1,11 +1,12 @@
-use Rattle.std.proofs.Common.{List, ◌∷◌, [], OnOk, ◌≡◌, ap, subst, ◌∙◌, arith}
+use Rattle.std.proofs.Common.{List, ◌∷◌, [], OnOk, ◌≡◌, sym, ap, subst, ◌∙◌, arith}
 use Rattle.acl_rows.specs.declared.row.Owner.{Owner}
 use Rattle.acl_rows.specs.declared.row.Row.{Row}
 use Rattle.acl_rows.specs.Rows.{entry_expiry, held_by, rows_of}
 use Rattle.acl_changes.specs.Touched.{row_key}
 use Rattle.base_rows.specs.declared.edit.Edit.{Edit}
 use Rattle.acl_changes.specs.Change.{ChangeState, after, more_edits}
-use Rattle.acl_changes.specs.Steps.{least_step}
+use Rattle.std.proofs.lemmas.Option.{same_Some}
+use Rattle.acl_changes.specs.Steps.{least_step, entry_look}
 use Rattle.acl_changes.proofs.OneEdit.{entry_edit_is}
 use Rattle.acl_changes.proofs.SpotTouches.{spot_most}
 use Rattle.acl_changes.proofs.change.Change.spot_edit.Goals as goal
@@ -28,3 +29,10 @@ pub returns-clause-least : goal.returns-clause-least
 returns-clause-least g c =
     let own = ap (λ (o : Owner). least_step c.args.self.now.rows (row_key o c.args.spot.now.side c.args.addr c.args.spot.now.number)) c.owner.ensures in
     omega (arith, c.entry_expiry-until.ensures.least, c.plan_row.ensures.least, own)
+
+pub returns-clause-looked : goal.returns-clause-looked
+returns-clause-looked g c = λ entry stands.
+    let same = same_Some c.entry-entry.result.now entry (sym c.entry-entry.ensures ∙ stands) in
+    let look : entry_look c.args.self.now c.url.result.now c.entry-entry.result.now c.args.addr ≡ entry_look c.args.self.now c.args.holding.now.1.url entry c.args.addr = λ i. entry_look c.args.self.now (c.url.ensures i) (same i) c.args.addr in
+    let own = ap (λ (o : Owner). least_step c.args.self.now.rows (row_key o c.args.spot.now.side c.args.addr c.args.spot.now.number)) c.owner.ensures in
+    omega (arith, c.entry_expiry-until.ensures.looked, c.plan_row.ensures.least, own, look)

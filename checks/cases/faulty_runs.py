@@ -194,7 +194,7 @@ class Unread(FaultyRuns):
                 ended = run(*words, input=packed)
                 self.note(f"{line} of {format}, status and last line", (3, b"fault Magic"), (ended.status, ended.out.splitlines()[-1]))
                 said = f"mud: the input is packed by {format}: {unpack} FILE | mud {line}"
-                self.note(f"{line} of {format}, what standard error is told first", said, ended.errors.decode().splitlines()[0])
+                self.note(f"{line} of {format}, what standard error is told first", [said], ended.errors.decode().splitlines()[:1])
                 # what it says is done
                 command = said.partition("by ")[2].partition(": ")[2].replace("FILE", packed).replace("mud ", program.PROGRAM + " ").replace("STORE", ":memory:")
                 shown = subprocess.run(command, shell=True, capture_output=True, check=False)

@@ -61,7 +61,8 @@ fn keep_first(first: &mut ArrayVec<u8, FIRST_KEPT>, octets: &[u8])
     ensures { first.new.items ≡ take 24 (first.old.items ++ octets.now) }
 {
     let count = first.remaining_capacity().min(octets.len());
-    let _kept = first.try_extend_from_slice(&octets[..count]);
+    let (piece, _) = octets.split_at(count);
+    let _kept = first.try_extend_from_slice(piece);
 }
 
 /// Keeps the last of these octets.

@@ -8,8 +8,7 @@ mod store_ends;
 mod store_runs;
 mod told;
 
-use crate::named_run::{folder_of, path_of, run_named};
-use crate::store_ends::Behind;
+use crate::named_run::{behind_name, folder_of, path_of, run_named};
 use crate::told::{
     tell_door, tell_input, tell_octets, tell_spool, tell_store, tell_unwritable, tell_waiting,
     tell_words,
@@ -32,7 +31,7 @@ fn main(rt: HostRuntime) -> ExitCode {
 fn run(rt: HostRuntime) -> u8 {
     let _streams = take_streams(&rt);
     match words(&rt) {
-        Ok(words) => run_over(rt, words.as_slice()).unwrap_or(Status::NoMemory.number()),
+        Ok(words) => run_over(rt, behind_name(words.as_slice())).unwrap_or(Status::NoMemory.number()),
         Err(error) => {
             if error.kind() == ErrorKind::OutOfMemory {
                 Status::NoMemory.number()
@@ -44,8 +43,9 @@ fn run(rt: HostRuntime) -> u8 {
     }
 }
 
+/// The program's name, and the words after it.
 fn words(rt: &HostRuntime) -> io::Result<Vec<String>> {
-    let words = env::args(rt)?.skip(1).collect(rt.alloc())?;
+    let words = env::args(rt)?.collect(rt.alloc())?;
     Ok(words)
 }
 
@@ -74,7 +74,7 @@ fn run_over(rt: HostRuntime, words: &[String]) -> io::Result<u8> {
     let mut clock = RealClock::new(rt);
     let (status, behind) = run_named(
         alloc, &rt, words, Unknown, &mut door, &mut spool, &mut clock,
-    );
+    )?;
     if status == Status::Unlisted.number() {
         tell_words(rt, words);
     }

@@ -1,5 +1,5 @@
 //! A run over what its words name: the store is their second word, and the folder their third.
-ghost use Rattle.std.specs.Prelude.{◌≡◌, ◌≢◌, ◌↔◌, None, IfOk, OnErr, option_map, string_bytes};
+ghost use Rattle.std.specs.Prelude.{◌≡◌, ◌≢◌, ◌↔◌, None, IfOk, OnErr, drop, option_map, string_bytes};
 ghost use Rattle.run_common.specs.Status.{Is};
 ghost use Rattle.run_common.specs.declared.status.Status.TheVariants.{Unlisted};
 ghost use Rattle.run_words.specs.Words.{command_in, words_of};
@@ -7,7 +7,6 @@ ghost use Rattle.mud.specs.NamedRuns.{folder_in, path_in};
 
 use crate::store_ends::Behind;
 use crate::store_runs::run_store;
-use mud_cli::Status;
 use mud_world::{Clock, Door, Spool};
 use run_words::{command_of, folder_word, store_word};
 use sqlite::Start;
@@ -47,9 +46,19 @@ pub fn folder_of(alloc: Global, words: &[String]) -> Result<String, AllocError>
     }
 }
 
+/// The words after the program's name.
+pub fn behind_name(words: &[String]) -> &[String]
+    ensures { result.now ≡ drop 1 words.now }
+{
+    match words {
+        [_, behind @ ..] => behind,
+        [] => words,
+    }
+}
+
 /// Runs these words over the store that they name: a file, or one in memory alone, that is empty. It
 /// answers the status, and what is to be told of the store. `S` stands for what the files at the path
-/// hold, whatever it is.
+/// hold, whatever it is. Without memory for the path nothing is run.
 pub fn run_named<S: Start, D: Door, P: Spool, C: Clock>(
     alloc: Global,
     rt: &HostRuntime,
@@ -58,11 +67,12 @@ pub fn run_named<S: Start, D: Door, P: Spool, C: Clock>(
     door: &mut D,
     spool: &mut P,
     clock: &mut C,
-) -> (u8, Behind)
-    ensures words { Is Unlisted result.0 ↔ (command_in (words_of words.now) ≡ None) }
+) -> Result<(u8, Behind), AllocError>
+    ensures words { IfOk result (λ ran. Is Unlisted ran.0 ↔ (command_in (words_of words.now) ≡ None)) }
+    ensures wanted { OnErr result (command_in (words_of words.now) ≢ None) }
 {
-    match path_of(alloc, words) {
-        Ok(path) => run_store(alloc, rt, words, path, start, door, spool, clock),
-        Err(AllocError) => (Status::NoMemory.number(), Behind::nothing()),
-    }
+    let path = path_of(alloc, words)?;
+    Ok(run_store(
+        alloc, rt, words, path, start, door, spool, clock,
+    ))
 }

@@ -46,7 +46,9 @@ fn run_in_memory<S: Alter + Drop, D: Door, P: Spool, C: Clock>(
     door: &mut D,
     spool: &mut P,
     clock: &mut C,
-) -> (u8, StoreKeeper<MemoryKeeper, FileKeeper<S>>) {
+) -> (u8, StoreKeeper<MemoryKeeper, FileKeeper<S>>)
+    ensures words { Is Unlisted result.0 ↔ (command_in (words_of words.now) ≡ None) }
+{
     let keeper = StoreKeeper::Memory(MemoryKeeper::new(alloc, Listed::new(alloc)));
     mud_main(alloc, words, keeper, door, spool, clock)
 }
@@ -93,7 +95,9 @@ pub fn run_store<S: Start, D: Door, P: Spool, C: Clock>(
     door: &mut D,
     spool: &mut P,
     clock: &mut C,
-) -> (u8, Behind) {
+) -> (u8, Behind)
+    ensures words { Is Unlisted result.0 ↔ (command_in (words_of words.now) ≡ None) }
+{
     let (status, keeper) = match path {
         Some(path) => run_file(alloc, rt, words, path, start, door, spool, clock),
         None => run_in_memory(alloc, words, door, spool, clock),

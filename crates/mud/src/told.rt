@@ -4,6 +4,7 @@ use io_system::{Call, Failure, RealSpool};
 use run_advice::{Broken, Input, Operand, WordFault, broken_of, input_of, word_fault};
 use run_words::{Command, USAGE};
 use std::fs::{self, OpenOptions};
+use std::io::ErrorKind;
 
 /// The link types that captures have where they aren't made at an interface of Ethernet
 /// (the LINKTYPE_ values of tcpdump.org), each with its name and what to do.
@@ -206,7 +207,14 @@ pub fn tell_store(rt: HostRuntime, path: &str, is_made: bool, behind: Behind) {
 
 /// Tells of a store that couldn't be opened that it can be read and not written.
 pub fn tell_unwritable(rt: HostRuntime, path: &str) {
-    if fs::open(&rt, path).is_ok() && OpenOptions::new().write(true).open(&rt, path).is_err() {
+    let Err(error) = OpenOptions::new().write(true).open(&rt, path) else {
+        return;
+    };
+    let is_refused = matches!(
+        error.kind(),
+        ErrorKind::PermissionDenied | ErrorKind::ReadOnlyFilesystem
+    );
+    if is_refused && fs::open(&rt, path).is_ok() {
         let _printed = eprint!(rt;
             "mud: {}: it can be read and not written: ask a copy of it that may be written\n", path);
     }

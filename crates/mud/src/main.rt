@@ -31,7 +31,9 @@ fn main(rt: HostRuntime) -> ExitCode {
 fn run(rt: HostRuntime) -> u8 {
     let _streams = take_streams(&rt);
     match words(&rt) {
-        Ok(words) => run_over(rt, behind_name(words.as_slice())).unwrap_or(Status::NoMemory.number()),
+        Ok(words) => run_over(rt, behind_name(words.as_slice())).unwrap_or(
+            Status::NoMemory.number(),
+        ),
         Err(error) => {
             if error.kind() == ErrorKind::OutOfMemory {
                 Status::NoMemory.number()
@@ -89,7 +91,12 @@ fn run_over(rt: HostRuntime, words: &[String]) -> io::Result<u8> {
         if status == Status::KeeperFailed.number() {
             tell_unwritable(rt, path.as_str());
         }
-        tell_store(rt, path.as_str(), is_made(command, status, was_there), behind);
+        tell_store(
+            rt,
+            path.as_str(),
+            is_made(command, status, was_there),
+            behind,
+        );
     }
     if behind.learns_nothing {
         let _printed = eprint!(rt;
@@ -114,6 +121,12 @@ fn is_made(command: Option<Command>, status: u8, was_there: bool) -> bool {
     }
     matches!(
         command,
-        Some(Command::Judge | Command::Snoop | Command::Tally | Command::Report(_) | Command::Export(_))
+        Some(
+            Command::Judge
+                | Command::Snoop
+                | Command::Tally
+                | Command::Report(_)
+                | Command::Export(_)
+        )
     )
 }

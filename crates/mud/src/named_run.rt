@@ -72,7 +72,5 @@ pub fn run_named<S: Start, D: Door, P: Spool, C: Clock>(
     ensures wanted { OnErr result (command_in (words_of words.now) ≢ None) }
 {
     let path = path_of(alloc, words)?;
-    Ok(run_store(
-        alloc, rt, words, path, start, door, spool, clock,
-    ))
+    Ok(run_store(alloc, rt, words, path, start, door, spool, clock))
 }

@@ -24,7 +24,9 @@ const LINKS: [(u32, &str, &str); 12] = [
 ];
 
 const AT_ANY: &str = "capture at an interface, and not at 'any'";
+
 const AT_MONITOR: &str = "it was heard by a monitor; capture at an interface of Ethernet";
+
 const AT_ETHERNET: &str = "capture at an interface of Ethernet";
 
 /// The link type of Ethernet, in the lower 16 of the bits that a header has for it.
@@ -62,8 +64,11 @@ fn tell_word(rt: HostRuntime, words: &[String], index: usize, sentence: &str) {
 
 fn tell_missing(rt: HostRuntime, words: &[String], operand: Operand) {
     if let Some(command) = words.get(0) {
-        let _printed =
-            eprint!(rt; "mud: {}: {} is missing\n", command.as_str(), name_of(operand));
+        let _printed = eprint!(rt;
+            "mud: {}: {} is missing\n",
+            command.as_str(),
+            name_of(operand)
+        );
     }
 }
 
@@ -118,7 +123,10 @@ pub fn tell_spool(rt: HostRuntime, spool: &RealSpool<HostRuntime>) {
         (Call::ReadFile, Some(file)) => {
             eprint!(rt; "mud: {}: the file can't be read: {error}\n", file.as_str())
         }
-        _ => eprint!(rt; "mud: {}: the folder can't be read: {error}\n", spool.folder()),
+        _ => eprint!(rt;
+            "mud: {}: the folder can't be read: {error}\n",
+            spool.folder()
+        ),
     };
 }
 
@@ -166,17 +174,24 @@ pub fn tell_input(rt: HostRuntime, command: Option<Command>, first: &[u8], last:
 }
 
 fn tell_packed(rt: HostRuntime, format: &str, tool: &str, line: &str) {
-    let _printed = eprint!(rt; "mud: the input is packed by {}: {} FILE | mud {}\n", format, tool, line);
+    let _printed = eprint!(rt;
+        "mud: the input is packed by {}: {} FILE | mud {}\n",
+        format, tool, line
+    );
 }
 
 fn tell_link(rt: HostRuntime, link: u32) {
     let found = LINKS.iter().find(|(number, _, _)| *number == link);
     let _printed = match found {
         Some((_, name, advice)) => {
-            eprint!(rt; "mud: the capture is of link {link} ({name}), and not of Ethernet: {advice}\n")
+            eprint!(rt;
+                "mud: the capture is of link {link} ({name}), and not of Ethernet: {advice}\n"
+            )
         }
         None if link & 0xFFFF == ETHERNET => {
-            eprint!(rt; "mud: the capture says that check sequences follow its frames: tshark -F pcap -r IN -w OUT\n")
+            eprint!(rt;
+                "mud: the capture says that check sequences follow its frames: tshark -F pcap -r IN -w OUT\n"
+            )
         }
         None => {
             eprint!(rt; "mud: the capture is of link {link}, and not of Ethernet: {AT_ETHERNET}\n")
@@ -188,15 +203,22 @@ fn tell_link(rt: HostRuntime, link: u32) {
 /// and that its log stays beside it.
 pub fn tell_store(rt: HostRuntime, path: &str, is_made: bool, behind: Behind) {
     if is_made {
-        let _printed =
-            eprint!(rt; "mud: {}: there was no store here, and an empty one was made\n", path);
+        let _printed = eprint!(rt;
+            "mud: {}: there was no store here, and an empty one was made\n",
+            path
+        );
     } else if behind.has_no_things {
         let _printed = eprint!(rt;
-            "mud: {} has no Things, so every packet is let through as unmanaged\n", path);
+            "mud: {} has no Things, so every packet is let through as unmanaged\n",
+            path
+        );
     }
     let _printed = match behind.unclosed {
         Some(Unclosed::DiskFull) => {
-            eprint!(rt; "mud: {}: its log stays beside it: the disk is full\n", path)
+            eprint!(rt;
+                "mud: {}: its log stays beside it: the disk is full\n",
+                path
+            )
         }
         Some(Unclosed::Other) => {
             eprint!(rt; "mud: {}: its log stays beside it: the disk failed\n", path)
@@ -216,6 +238,8 @@ pub fn tell_unwritable(rt: HostRuntime, path: &str) {
     );
     if is_refused && fs::open(&rt, path).is_ok() {
         let _printed = eprint!(rt;
-            "mud: {}: it can be read and not written: ask a copy of it that may be written\n", path);
+            "mud: {}: it can be read and not written: ask a copy of it that may be written\n",
+            path
+        );
     }
 }

@@ -31,9 +31,13 @@ pub enum Broken {
 }
 
 const GZIP: [u8; 2] = [0x1F, 0x8B];
+
 const ZSTANDARD: [u8; 4] = [0x28, 0xB5, 0x2F, 0xFD];
+
 const SECTION_HEADER: [u8; 4] = [0x0A, 0x0D, 0x0D, 0x0A];
+
 const MICROSECONDS: u32 = 0xA1B2_C3D4;
+
 const NANOSECONDS: u32 = 0xA1B2_3C4D;
 
 /// How many octets the header of a capture in the classic format has.

@@ -44,12 +44,19 @@ pub enum WordFault {
 }
 
 const NO_OPERAND: [Operand; 0] = [];
+
 const MESSAGE: [Operand; 1] = [Operand::Message];
+
 const STORE: [Operand; 1] = [Operand::Store];
+
 const FOLDER: [Operand; 2] = [Operand::Store, Operand::Folder];
+
 const KIND: [Operand; 2] = [Operand::Store, Operand::Kind];
+
 const MAC: [Operand; 2] = [Operand::Store, Operand::Mac];
+
 const PORT: [Operand; 3] = [Operand::Store, Operand::Port, Operand::Count];
+
 const PACKETS: [Operand; 1] = [Operand::Packets];
 
 /// What stands behind the name of a command, where it is one.

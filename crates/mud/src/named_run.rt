@@ -1,5 +1,6 @@
 //! A run over what its words name: the store is their second word, and the folder their third.
 ghost use Rattle.std.specs.Prelude.{◌≡◌, ◌≢◌, ◌↔◌, None, IfOk, OnErr, drop, option_map, string_bytes};
+ghost use Rattle.std.specs.Process.{exit_status};
 ghost use Rattle.run_common.specs.Status.{Is};
 ghost use Rattle.run_common.specs.declared.status.Status.TheVariants.{Unlisted};
 ghost use Rattle.run_words.specs.Words.{command_in, words_of};
@@ -11,6 +12,7 @@ use mud_world::{Clock, Door, Spool};
 use run_words::{command_of, folder_word, store_word};
 use sqlite::Start;
 use std::alloc::{AllocError, Global};
+use std::process::ExitCode;
 
 /// The word of a store that is kept in memory alone, and is empty at the start of each run.
 const IN_MEMORY: &str = ":memory:";
@@ -56,9 +58,18 @@ pub fn behind_name(words: &[String]) -> &[String]
     }
 }
 
-/// Runs these words over the store that they name: a file, or one in memory alone, that is empty. It
-/// answers the status, and what is to be told of the store. `S` stands for what the files at the path
-/// hold, whatever it is. Without memory for the path nothing is run.
+/// A run that came to its end.
+pub struct Ran {
+    /// What the program ends with.
+    pub code: ExitCode,
+    /// The number of its status.
+    pub status: u8,
+    /// What is to be told of the store.
+    pub behind: Behind,
+}
+
+/// Runs these words over the store that they name: a file, or one in memory alone, that is empty. `S`
+/// stands for what the files at the path hold, whatever it is. Without memory for the path nothing is run.
 pub fn run_named<S: Start, D: Door, P: Spool, C: Clock>(
     alloc: Global,
     rt: &HostRuntime,
@@ -67,10 +78,16 @@ pub fn run_named<S: Start, D: Door, P: Spool, C: Clock>(
     door: &mut D,
     spool: &mut P,
     clock: &mut C,
-) -> Result<(u8, Behind), AllocError>
-    ensures words { IfOk result (λ ran. Is Unlisted ran.0 ↔ (command_in (words_of words.now) ≡ None)) }
+) -> Result<Ran, AllocError>
+    ensures status { IfOk result (λ ran. ran.status ≡ exit_status ran.code) }
+    ensures words { IfOk result (λ ran. Is Unlisted (exit_status ran.code) ↔ (command_in (words_of words.now) ≡ None)) }
     ensures wanted { OnErr result (command_in (words_of words.now) ≢ None) }
 {
     let path = path_of(alloc, words)?;
-    Ok(run_store(alloc, rt, words, path, start, door, spool, clock))
+    let (status, behind) = run_store(alloc, rt, words, path, start, door, spool, clock);
+    Ok(Ran {
+        code: ExitCode::from(status),
+        status,
+        behind,
+    })
 }

@@ -1,6 +1,8 @@
 //! What standard error is told of a run. Whether it takes that changes nothing.
-use crate::store_ends::{Behind, Unclosed};
+use crate::named_run::Ran;
+use crate::store_ends::Unclosed;
 use io_system::{Call, Failure, RealSpool};
+use mud_cli::Status;
 use run_advice::{Broken, Input, Operand, WordFault, broken_of, input_of, word_fault};
 use run_words::{Command, USAGE};
 use std::fs::{self, OpenOptions};
@@ -199,36 +201,81 @@ fn tell_link(rt: HostRuntime, link: u32) {
     };
 }
 
-/// Tells what is to be told of the store at this path: that the run made it, or that it has no Thing;
-/// and that its log stays beside it.
-pub fn tell_store(rt: HostRuntime, path: &str, is_made: bool, behind: Behind) {
-    if is_made {
-        let _printed = eprint!(rt;
-            "mud: {}: there was no store here, and an empty one was made\n",
-            path
-        );
-    } else if behind.has_no_things {
-        let _printed = eprint!(rt;
-            "mud: {} has no Things, so every packet is let through as unmanaged\n",
-            path
+/// Tells what is to be told of the store of a run: that it couldn't be written, that the run made it, or
+/// that it has no Thing; that its log stays beside it; and that nothing could be learnt.
+pub fn tell_store(
+    rt: HostRuntime,
+    command: Option<Command>,
+    path: &Option<String>,
+    was_there: bool,
+    ran: &Ran,
+) {
+    if let Some(path) = path {
+        if ran.status == Status::KeeperFailed.number() {
+            tell_unwritable(rt, path.as_str());
+        }
+        if !was_there && is_asking(command, ran.status) {
+            tell_of(
+                rt,
+                path.as_str(),
+                ": there was no store here, and an empty one was made",
+            );
+        } else if ran.behind.has_no_things {
+            tell_of(
+                rt,
+                path.as_str(),
+                " has no Things, so every packet is let through as unmanaged",
+            );
+        }
+        match ran.behind.unclosed {
+            Some(Unclosed::DiskFull) => {
+                tell_of(
+                    rt,
+                    path.as_str(),
+                    ": its log stays beside it: the disk is full",
+                );
+            }
+            Some(Unclosed::Other) => {
+                tell_of(
+                    rt,
+                    path.as_str(),
+                    ": its log stays beside it: the disk failed",
+                );
+            }
+            None => {}
+        }
+    }
+    if ran.behind.learns_nothing {
+        tell(
+            rt,
+            "no name could be learnt: no address is bound to urn:ietf:params:mud:dns",
         );
     }
-    let _printed = match behind.unclosed {
-        Some(Unclosed::DiskFull) => {
-            eprint!(rt;
-                "mud: {}: its log stays beside it: the disk is full\n",
-                path
-            )
-        }
-        Some(Unclosed::Other) => {
-            eprint!(rt; "mud: {}: its log stays beside it: the disk failed\n", path)
-        }
-        None => Ok(()),
-    };
+}
+
+/// Whether a command that opened its store asks what it keeps, and isn't meant to make one.
+fn is_asking(command: Option<Command>, status: u8) -> bool {
+    if status == Status::KeeperFailed.number() || status == Status::NoMemory.number() {
+        return false;
+    }
+    matches!(
+        command,
+        Some(
+            Command::Judge
+                | Command::Snoop
+                | Command::Tally
+                | Command::Report(_)
+                | Command::Export(_)
+        )
+    )
+}
+
+fn tell_of(rt: HostRuntime, path: &str, sentence: &str) {
+    let _printed = eprint!(rt; "mud: {}{}\n", path, sentence);
 }
 
 /// Tells of a store that couldn't be opened that it can be read and not written.
-pub fn tell_unwritable(rt: HostRuntime, path: &str) {
+fn tell_unwritable(rt: HostRuntime, path: &str) {
     let Err(error) = OpenOptions::new().write(true).open(&rt, path) else {
         return;
     };

@@ -123,7 +123,7 @@ fn close_file<D: Disk + Drop>(keeper: FileKeeper<FileStore<D>>) -> Option<Unclos
 }
 
 /// Copies the log of a connection's database into its file, and hands the files out.
-fn close_connection<D: Disk + Drop>(
+pub fn close_connection<D: Disk + Drop>(
     connection: Connection<FileStore<D>>,
 ) -> Result<Files<D>, (Error, FileStore<D>)>
     // What was committed last is in the file alone, as it reads now and after a crash.

@@ -1,2 +1,3 @@
+pub mod NamedRuns
 pub mod StoreKeepers
 pub mod TwoRuns

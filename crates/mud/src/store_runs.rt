@@ -10,17 +10,13 @@ ghost use Rattle.sqlite.specs.WalFiles.{image_at};
 ghost use Rattle.mud.specs.declared.store.StoreKeeper.TheVariants as store;
 
 use crate::store::StoreKeeper;
-use item_codec::kinds::CLASS_KIND;
+use crate::store_ends::{Behind, end_run};
 use keep_sqlite::{FileKeeper, open_file};
 use mud_base::Listed;
-use mud_cli::{Status, mud_main};
+use mud_cli::mud_main;
 use mud_world::{Clock, Door, Keeper, MemoryKeeper, Spool};
-use run_words::{Command, command_of};
 use sqlite::{Alter, FileFrom, FileStore, Start};
 use std::alloc::Global;
-
-/// The key of the item that is the class of DNS servers (RFC 8520, section 4.6).
-const DNS_CLASS_KEY: &[u8] = b"\x01urn:ietf:params:mud:dns";
 
 /// Runs these words over a file that was opened. It is one call over any store, since each call at the
 /// store of a file is proved at length.
@@ -50,7 +46,9 @@ fn run_in_memory<S: Alter + Drop, D: Door, P: Spool, C: Clock>(
     door: &mut D,
     spool: &mut P,
     clock: &mut C,
-) -> (u8, StoreKeeper<MemoryKeeper, FileKeeper<S>>) {
+) -> (u8, StoreKeeper<MemoryKeeper, FileKeeper<S>>)
+    ensures words { Is Unlisted result.0 ↔ (command_in (words_of words.now) ≡ None) }
+{
     let keeper = StoreKeeper::Memory(MemoryKeeper::new(alloc, Listed::new(alloc)));
     mud_main(alloc, words, keeper, door, spool, clock)
 }
@@ -86,7 +84,7 @@ pub fn run_file<S: Start, D: Door, P: Spool, C: Clock>(
 }
 
 /// Runs these words over the file at the path, or where there is none over a store in memory alone,
-/// that is empty. It answers the status, and whether `snoop` could learn nothing. It stands over any
+/// that is empty. It answers the status, and what is to be told of the store. It stands over any
 /// `S`, and hands out no keeper, since a caller at the store of a file is proved at length.
 pub fn run_store<S: Start, D: Door, P: Spool, C: Clock>(
     alloc: Global,
@@ -97,34 +95,12 @@ pub fn run_store<S: Start, D: Door, P: Spool, C: Clock>(
     door: &mut D,
     spool: &mut P,
     clock: &mut C,
-) -> (u8, bool) {
+) -> (u8, Behind)
+    ensures words { Is Unlisted result.0 ↔ (command_in (words_of words.now) ≡ None) }
+{
     let (status, keeper) = match path {
         Some(path) => run_file(alloc, rt, words, path, start, door, spool, clock),
         None => run_in_memory(alloc, words, door, spool, clock),
     };
-    (status, learns_nothing(alloc, words, status, keeper))
-}
-
-/// Whether these words are those of `snoop`, it ended with its capture, whole or broken, and no address
-/// is bound to the class of DNS servers.
-fn learns_nothing<K: Keeper>(alloc: Global, words: &[String], status: u8, keeper: K) -> bool {
-    let mut keeper = keeper;
-    is_snoop_to_the_end(alloc, words, status) && binds_no_dns_server(alloc, &mut keeper)
-}
-
-fn is_snoop_to_the_end(alloc: Global, words: &[String], status: u8) -> bool {
-    if status != Status::Done.number() && status != Status::Refused.number() {
-        return false;
-    }
-    matches!(command_of(alloc, words), Some(Command::Snoop))
-}
-
-/// Whether the items that a keeper keeps bind no address to the class of DNS servers: a class of no
-/// address is no item. They are read once more for it; where that fails, this isn't known, and false.
-fn binds_no_dns_server<K: Keeper>(alloc: Global, keeper: &mut K) -> bool {
-    let Ok(items) = keeper.open(alloc) else {
-        return false;
-    };
-    !items.as_slice().iter().any(|item| item.kind == CLASS_KIND
-        && item.key.octets() == DNS_CLASS_KEY)
+    (status, end_run(alloc, words, status, keeper))
 }

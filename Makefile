@@ -45,7 +45,7 @@ trusted:
 	@checks/print trusted
 
 limits: build
-	checks/run -j "$$(nproc)" far-limits a-year
+	checks/run -j "$$(nproc)" far-limits a-year busy-day
 
 memory: build
 	checks/run -j "$$(nproc)" failing-allocations

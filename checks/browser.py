@@ -182,6 +182,15 @@ class Browser:
         """Chooses a file, as one that is dropped on the page."""
         self.driver.find_element(self.by.ID, "file").send_keys(os.path.abspath(path))
 
+    def drop(self, path):
+        """Drops a file on the page by the mouse."""
+        place = self.driver.find_element(self.by.CSS_SELECTOR, ".drop")
+        self.driver.execute_script("arguments[0].scrollIntoView({block: 'center'})", place)
+        box = self.driver.execute_script("const box = arguments[0].getBoundingClientRect(); return [box.x + box.width / 2, box.y + 12]", place)
+        for kind in ("dragEnter", "dragOver", "drop"):
+            data = {"items": [], "files": [os.path.abspath(path)], "dragOperationsMask": 1}
+            self.driver.execute_cdp_cmd("Input.dispatchDragEvent", {"type": kind, "x": box[0], "y": box[1], "data": data})
+
     def errors(self):
         """What the browser's console has of errors of the page itself."""
         return [row["message"] for row in self.driver.get_log("browser") if row["level"] == "SEVERE" and "Failed to load resource" not in row["message"]]

@@ -26,7 +26,7 @@ DNS = "urn:ietf:params:mud:dns"
 SYN, ACK, SYN_ACK = 2, 16, 18
 
 
-def side_lists(side, rows, begun):
+def side_lists(side, rows, begun, forwarding="accept"):
     """An access list of a side: each row the selector, its value, and the port of whom it is begun to."""
     aces = []
     for number, (selector, value, port) in enumerate(rows, 1):
@@ -35,13 +35,13 @@ def side_lists(side, rows, begun):
         ipv4 = {f"ietf-acldns:{end}-dnsname": value} if selector == "name" else {}
         mud = {"ietf-mud:mud": {selector: value}} if selector != "name" else {}
         matches = {"ipv4": {**ipv4, "protocol": 6}, "tcp": {port_of: {"operator": "eq", "port": port}, "ietf-mud:direction-initiated": begun}, **mud}
-        aces.append({"name": f"<{side} \"{number}\">", "matches": matches, "actions": {"forwarding": "accept"}})
+        aces.append({"name": f"<{side} \"{number}\">", "matches": matches, "actions": {"forwarding": forwarding}})
     return {"name": f"{side} & list", "type": "ipv4-acl-type", "aces": {"ace": aces}}
 
 
-def usage(url, *rows, begun="from-device"):
-    """A usage file that lets the Thing, or its peers, begin TCP connections."""
-    lists = [side_lists(side, rows, begun) for side in ("from", "to")]
+def usage(url, *rows, begun="from-device", forwarding="accept"):
+    """A usage file that lets the Thing, or its peers, begin TCP connections, or not."""
+    lists = [side_lists(side, rows, begun, forwarding) for side in ("from", "to")]
     policies = {f"{side}-device-policy": {"access-lists": {"access-list": [{"name": one["name"]}]}} for side, one in zip(("from", "to"), lists)}
     mud = {"mud-version": 1, "mud-url": url, "last-update": "2026-10-01T00:00:00+00:00", "cache-validity": 168, "is-supported": True, **policies}
     return json.dumps({"ietf-mud:mud": mud, "ietf-access-control-list:acls": {"acl": lists}}).encode()
@@ -131,13 +131,27 @@ class Day:
             os.utime(os.path.join(folder, name), (first + HOUR, first + HOUR))
 
 
-def tell_site(port, files):
-    """Tells a console what the manager knew on the evening before; the octets of usage files go to a folder."""
+def teller(port):
+    """What tells the console at a port."""
     def post(path, body, method="POST"):
         octets = body if isinstance(body, bytes) else json.dumps(body).encode()
         ended = run("-s", "-X", method, "--data-binary", "@-", f"http://127.0.0.1:{port}{path}", program="curl", input=octets)
         return json.loads(ended.out)
+    return post
 
+
+def tell_file(post, url, octets, files):
+    """Tells a usage file and its approval; its octets go to a folder."""
+    digest = hashlib.sha256(octets).hexdigest()
+    with open(os.path.join(files, digest + ".json"), "wb") as file:
+        file.write(octets)
+    post("/files", octets)
+    assert post("/verdicts", {"url": url, "sha256": digest, "verdict": "waived"})["result"] == "approved"
+
+
+def tell_site(port, files):
+    """Tells a console what the manager knew on the evening before; the octets of usage files go to a folder."""
+    post = teller(port)
     post("/classes", {"class": DNS, "address": GATE})
     post("/locals", {"prefixes": ["192.0.2.0/24"]}, "PUT")
     for mac in (CAMERA, SENSOR, LAMP):
@@ -145,11 +159,7 @@ def tell_site(port, files):
         post("/leases", {"mac": mac, "address": AT[mac], "seconds": 4294967295})
     post("/names", {"name": "hub.example.net", "address": HUB, "ttl": 2147483647})
     for mac, octets in FILES.items():
-        digest = hashlib.sha256(octets).hexdigest()
-        with open(os.path.join(files, digest + ".json"), "wb") as file:
-            file.write(octets)
-        post("/files", octets)
-        assert post("/verdicts", {"url": URLS[mac], "sha256": digest, "verdict": "waived"})["result"] == "approved"
+        tell_file(post, URLS[mac], octets, files)
 
 
 def log_line(second, user, method, path, body, status="200"):

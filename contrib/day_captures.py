@@ -4,9 +4,10 @@ They are the files of a folder, /var/lib/mud-captures or where MUD_CAPTURES says
 packets of the day or of the day before, one behind the other as one capture. Of a file that is cut what is whole counts.
 """
 import collections
+import errno
 import glob
 import hashlib
-import itertools
+import operator
 import os
 import struct
 import time
@@ -21,9 +22,32 @@ Piece = collections.namedtuple("Piece", "path octets sha256 packets first last")
 # what was heard: the packet's number in the run, its second, the console's route, and the message or frame
 Message = collections.namedtuple("Message", "number second path body")
 HEAD = struct.Struct("<IHHIIII")
+# of a record the second, its fraction and how much was captured; its head has so many octets
+RECORD, HEAD_OF_RECORD = struct.Struct("<3I"), 16
 MAGIC = b"\xd4\xc3\xb2\xa1"
+# the first octet of the kind and the protocol, of frames that are all but IPv6, tagged, LLDP or UDP
+QUIET = frozenset(bytes([captures.IPV4 >> 8, protocol]) for protocol in range(256) if protocol != captures.UDP)
+# so many octets of a file are read at once
+PART = 1 << 22
 # by so many seconds the packets of one file may be out of order, and two files may overlap, before it is told
 SLACK = 2
+
+
+class Part(collections.namedtuple("Part", "octets starts seconds gap end")):
+    """Frames by thousands: the octets, where in them each frame begins, and the seconds. Between two frames is a gap of so
+    many octets, and the last one ends there."""
+
+    __slots__ = ()
+
+    def end_of(self, at):
+        return self.starts[at + 1] - self.gap if at + 1 < len(self.starts) else self.end
+
+    def frame(self, at):
+        return self.octets[self.starts[at]:self.end_of(at)]
+
+    def first(self, count):
+        """So many frames of it."""
+        return self if count >= len(self.starts) else self._replace(starts=self.starts[:count], seconds=self.seconds[:count], end=self.end_of(count - 1))
 
 
 def folder():
@@ -66,7 +90,7 @@ class Captures:
         """Reads the files that have packets of the two days."""
         chosen = self.chosen()
         for at, (first, path) in enumerate(chosen, 1):
-            self.show(f"reading capture {at} of {len(chosen)}, of {clock(first)}")
+            self.show("reading the captures", f"{at} of {len(chosen)}, of {clock(first)}", at / len(chosen))
             is_last = at == len(chosen)
             try:
                 self.take(path, is_last)
@@ -97,40 +121,48 @@ class Captures:
         if earlier:
             self.remarks.append(f"{path} has what {earlier.path} has: the hour is there twice, and counts once")
             return
-        size, packets, first, last, latest = HEAD.size, 0, None, None, 0
+        size, packets, first, last, self.latest = HEAD.size, 0, None, None, 0
         try:
-            for second, frame in frames_in(path):
-                size, packets, last = size + 16 + len(frame), packets + 1, second
-                if second != latest:
-                    first = second if first is None else first
-                    if second < latest - SLACK:
-                        self.remarks.append(f"{path}: at {clock(latest)} the clock was set back to {clock(second)}")
-                        latest = second
-                    latest = max(latest, second)
-                if of_interest(frame):
-                    self.hear(self.number + packets, second, frame)
+            for part in parts_in(path):
+                first, last = part.seconds[0] if first is None else first, part.seconds[-1]
+                self.look_at_clock(path, part.seconds)
+                self.hear_part(self.number + packets + 1, part)
+                packets += len(part.seconds)
+                size += part.end
         except captures.Cut:
             # the last file may be under way
             if not is_last or os.path.getmtime(path) < time.time() - 60:
-                self.remarks.append(f"{path} is cut behind {packets} packets, at {clock(last)}")
+                self.remarks.append(f"{path} is cut behind {packets} packet{'' if packets == 1 else 's'}, at {clock(last)}")
         except captures.Unread as failure:
-            self.remarks.append(f"{path} can't be read behind {packets} packets: {failure}")
+            self.remarks.append(f"{path} can't be read behind packet {packets}: {failure}")
         if not packets:
             return
         size = size if is_plain(path) else os.path.getsize(path)
-        piece = Piece(path, size, digest(path, size), packets, first, max(latest, last))
+        piece = Piece(path, size, digest(path, size), packets, first, max(self.latest, last))
         before = self.pieces[-1] if self.pieces else None
         if before and first < before.last - SLACK:
             self.remarks.append(f"{path} begins at {clock(first)}, before {before.path} ends: the clock was set back, or two captured; both count")
         self.pieces.append(piece)
         self.number += packets
 
+    def look_at_clock(self, path, seconds):
+        """Tells where the clock was set back."""
+        if seconds[0] >= self.latest - SLACK and seconds == sorted(seconds):
+            self.latest = max(self.latest, seconds[-1])
+            return
+        for second in seconds:
+            if second < self.latest - SLACK:
+                self.remarks.append(f"{path}: at {clock(self.latest)} the clock was set back to {clock(second)}")
+                self.latest = second
+            self.latest = max(self.latest, second)
+
     def take_again(self, pieces):
         """Takes in the pieces of an earlier run, as they were."""
         for piece in pieces:
-            for number, (second, frame) in enumerate(frames_of([piece]), self.number + 1):
-                if of_interest(frame):
-                    self.hear(number, second, frame)
+            number = self.number + 1
+            for part in parts_of(piece):
+                self.hear_part(number, part)
+                number += len(part.seconds)
             self.pieces.append(piece)
             self.number += piece.packets
 
@@ -139,6 +171,13 @@ class Captures:
         size = min(piece.octets, os.path.getsize(path), 1 << 16)
         with open(piece.path, "rb") as one, open(path, "rb") as other:
             return one.read(size) == other.read(size)
+
+    def hear_part(self, number, part):
+        """Keeps what is heard in frames, the first of this number."""
+        for at in [at for at, start in enumerate(part.starts) if part.octets[start + 12:start + 24:11] not in QUIET]:
+            frame = part.frame(at)
+            if of_interest(frame):
+                self.hear(number + at, part.seconds[at], frame)
 
     def hear(self, number, second, frame):
         """Keeps a message of DHCP, a frame of LLDP, and the names of an answer by a server that is bound."""
@@ -169,27 +208,86 @@ def of_interest(frame):
     return kind in (b"\x88\xcc", b"\x81\x00", b"\x88\xa8")
 
 
-def frames_in(path):
-    """The second and the octets of each frame of a file. Of the usual form they are read by large parts, as they are many."""
+def parts_in(path):
+    """The frames of a file, by parts. Those that stand before a fault come before it is raised."""
     with open(path, "rb") as file:
         if file.read(4) != MAGIC or file.read(20)[16:] != b"\1\0\0\0":
             file.seek(0)
-            yield from captures.frames(file.read)
+            yield from parts_of_frames(captures.frames(file.read))
             return
-        held, at, numbers = b"", 0, struct.Struct("<3I").unpack_from
-        while part := file.read(1 << 20):
-            held, at = held[at:] + part, 0
-            last = len(held) - 16
-            while at <= last:
-                second, _, captured = numbers(held, at)
-                if captured > captures.MOST:
-                    raise captures.Unread("a packet of the capture is too long")
-                if at + captured > last:
-                    break
-                yield second, held[at + 16:at + 16 + captured]
-                at += 16 + captured
-        if at < len(held):
+        held = b""
+        while more := file.read(PART):
+            held += more
+            part = records_in(held)
+            if part.seconds:
+                yield part
+            held = held[part.end:]
+            if len(held) >= HEAD_OF_RECORD and RECORD.unpack_from(held)[2] > captures.MOST:
+                raise captures.Unread("a packet of the capture is too long")
+        if held:
             raise captures.Cut
+
+
+def records_in(held):
+    """The records of the usual form that stand whole in the octets, up to one that is too long."""
+    starts, seconds, numbers, at, last = [], [], RECORD.unpack_from, 0, len(held) - HEAD_OF_RECORD
+    while at <= last:
+        second, _, captured = numbers(held, at)
+        at += HEAD_OF_RECORD
+        starts.append(at)
+        seconds.append(second)
+        at += captured
+    part = Part(held, starts, seconds, HEAD_OF_RECORD, at)
+    if at > len(held):
+        part = part._replace(starts=starts[:-1], seconds=seconds[:-1], end=starts[-1] - HEAD_OF_RECORD)
+    sizes = map(operator.sub, [*part.starts[1:], part.end + HEAD_OF_RECORD], part.starts)
+    long = next((at for at, size in enumerate(sizes) if size > captures.MOST + HEAD_OF_RECORD), None) if len(held) > captures.MOST else None
+    return part if long is None else part._replace(starts=part.starts[:long], seconds=part.seconds[:long], end=part.starts[long] - HEAD_OF_RECORD)
+
+
+def parts_of_frames(frames):
+    """The same of frames that come one by one."""
+    held, size, starts, seconds, fault = [], 0, [], [], None
+    while fault is None:
+        try:
+            second, frame = next(frames)
+        except StopIteration:
+            break
+        except captures.Unread as failure:
+            fault = failure
+            break
+        held.append(frame)
+        starts.append(size)
+        seconds.append(second)
+        size += len(frame)
+        if size > PART:
+            yield Part(b"".join(held), starts, seconds, 0, size)
+            held, size, starts, seconds = [], 0, [], []
+    if seconds:
+        yield Part(b"".join(held), starts, seconds, 0, size)
+    if fault:
+        raise fault
+
+
+def parts_of(piece):
+    """The frames of a piece, by parts."""
+    left = piece.packets
+    for part in parts_in(piece.path):
+        yield part.first(left)
+        left -= len(part.seconds)
+        if left <= 0:
+            return
+
+
+def heads_of(pieces):
+    """The seconds and the hardware addresses of the run's frames, by parts: twelve octets, or the whole of a shorter frame."""
+    for piece in pieces:
+        for part in parts_of(piece):
+            octets, starts = part.octets, part.starts
+            if min(map(operator.sub, [*starts[1:], part.end + part.gap], starts)) < 12 + part.gap:
+                yield part.seconds, [part.frame(at)[:12] for at in range(len(starts))]
+            else:
+                yield part.seconds, [octets[start:start + 12] for start in starts]
 
 
 def is_plain(path):
@@ -217,31 +315,32 @@ def check(pieces):
     return f"{changed[0]} isn't what it was" if changed else None
 
 
-def records_of(piece):
-    """The octets of a piece's records, in parts, as records of the classic format in this order of octets."""
-    if not is_plain(piece.path):
-        with open(piece.path, "rb") as file:
-            for _, (second, frame) in zip(range(piece.packets), captures.frames(file.read)):
-                yield struct.pack("<4I", second, 0, len(frame), len(frame)) + frame
-        return
-    with open(piece.path, "rb") as file:
-        file.seek(HEAD.size)
-        left = piece.octets - HEAD.size
-        while left and (part := file.read(min(left, 1 << 18))):
-            yield part
-            left -= len(part)
-
-
 def write_joined(pieces, sink):
-    """Writes the pieces as one capture."""
+    """Writes the pieces as one capture in the classic format in this order of octets."""
     sink.write(HEAD.pack(0xA1B2C3D4, 2, 4, 0, 0, 262144, captures.ETHERNET))
     for piece in pieces:
-        for part in records_of(piece):
-            sink.write(part)
+        if is_plain(piece.path):
+            sink.flush()
+            send(piece, sink)
+            continue
+        for part in parts_of(piece):
+            for at, second in enumerate(part.seconds):
+                frame = part.frame(at)
+                sink.write(struct.pack("<4I", second, 0, len(frame), len(frame)) + frame)
     sink.flush()
 
 
-def frames_of(pieces):
-    """The second and the octets of each frame of the run."""
-    for piece in pieces:
-        yield from itertools.islice(frames_in(piece.path), piece.packets)
+def send(piece, sink):
+    """Writes the records of a piece as they are, by the kernel where it can."""
+    with open(piece.path, "rb") as file:
+        at = HEAD.size
+        try:
+            while at < piece.octets and (sent := os.sendfile(sink.fileno(), file.fileno(), at, piece.octets - at)):
+                at += sent
+        except OSError as failure:
+            if failure.errno != errno.EINVAL:
+                raise
+            file.seek(at)
+            while at < piece.octets and (part := file.read(min(piece.octets - at, 1 << 18))):
+                sink.write(part)
+                at += len(part)

@@ -80,11 +80,13 @@ class Folder:
         """Makes all files but the report and the sums, of the captures, the log of changes, how many packets the kernel
         dropped, and what was denied on days before."""
         self.found, self.kernel, self.before = found, kernel, before
+        self.show("telling what was heard")
         self.telling = day_telling.Telling(self.copy, found, min(piece.first for piece in found.pieces))
         stores, told = self.make_stores()
         self.last, self.files = told, day_things.Files(day_telling.program(), told.listings["files"], self.copy.files.get)
         self.things = {row["mac"]: row["url"] for row in told.listings["things"]}
         self.judge(stores)
+        self.show("writing reports")
         self.write_reports(stores[-1])
         self.write_exports()
         self.write_log(log)
@@ -114,8 +116,8 @@ class Folder:
             def to(name, mode="w"):
                 return opened.enter_context(open(os.path.join(self.folder, name), mode))
             self.day.dropped_file = to("dropped.jsonl")
-            self.day.all_file = to("packets.jsonl") if self.wants_all else None
-            day_lines.judge_all(day_telling.program(), stores, self.telling.states, self.day, self.found, to("lines", "wb"), self.show)
+            self.day.lines_file, self.day.all_file = to("lines", "wb"), to("packets.jsonl") if self.wants_all else None
+            day_lines.judge_all(day_telling.program(), stores, self.telling.states, self.day, self.found, self.show)
 
     def write_reports(self, store):
         """The six reports. What was due is asked as of the day's end, since 'report' asks the clock."""

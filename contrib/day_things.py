@@ -7,10 +7,11 @@ import collections
 import importlib.machinery
 import importlib.util
 import os
+import re
 
 import day_captures
 import kept_files
-from day_lines import KINDS
+from day_lines import KINDS, OTHERS, TALKS
 
 
 def beside(name):
@@ -22,6 +23,8 @@ def beside(name):
     return module
 
 
+# in its sentences, a network that is one address
+ONE_ADDRESS = re.compile("an address in (?:([0-9.]+)/32|([0-9a-f:.]+)/128)(?![0-9])")
 EXPLAIN = beside("explain")
 CHANGES = beside("changes")
 
@@ -99,7 +102,7 @@ def entry_for(key, names):
 def words_of(ace, version, side, url):
     """The entry in a sentence."""
     acl = {"type": f"ipv{version}-acl-type", "name": "made"}
-    return EXPLAIN.sentence(EXPLAIN.entry_of(ace, acl, side, 1, ""), side, url)
+    return ONE_ADDRESS.sub(r"the address \1\2", EXPLAIN.sentence(EXPLAIN.entry_of(ace, acl, side, 1, ""), side, url))
 
 
 def remedy(key, url, names):
@@ -109,7 +112,7 @@ def remedy(key, url, names):
         return {"words": "The operator holds the Thing: to release it would."}
     if ruling == "drop:no-file":
         return {"words": "No file of its URL is approved: to approve one that allows it would."}
-    if key[3] == "others":
+    if key[3] == OTHERS:
         return {"words": "These are of too many kinds to be told apart."}
     ace, version = entry_for(key, names)
     if ace is None:
@@ -127,45 +130,31 @@ class Told:
 
     def __init__(self, day, listings, files, changes):
         self.day, self.listings, self.files, self.changes = day, listings, files, changes
-        self.rows = list(day.rows())
         self.names = collections.defaultdict(list)
         for row in listings["names"]:
             for one in row["addresses"]:
                 self.names[one["address"]].append(row["name"])
-        self.counts, self.unknown, self.talks = collections.Counter(), collections.Counter(), collections.Counter()
-        for hour, kind, counted, unknown, _, ends, packets in self.rows:
-            for row in counted:
-                self.counts[hour, *row] += packets
-                peer = ends[1 if row[1] == "from" else 0] if len(ends) > 1 else "-"
-                self.talks[row[0], peer, kind] += packets
-            for row in unknown:
-                self.unknown[hour, *row] += packets
+        # of each Thing what was denied, what of it was begun before, and the rulings
+        self.of_denied, self.of_before = by_thing(day.denied.items()), by_thing(day.before.items())
+        self.of_rulings = by_thing(sorted(day.rulings.items()))
 
     def hours(self, count):
         """The numbers of each kind, hour by hour."""
-        found = [dict.fromkeys(KINDS, 0) for _ in range(count)]
-        for hour, kind, _, _, _, _, packets in self.rows:
-            found[hour][kind] += packets
         start = self.day.found.start
-        return [{"second": start + at * 3600, "time": day_captures.clock(start + at * 3600)[11:16], **row} for at, row in enumerate(found)]
+        return [{"second": start + at * 3600, "time": day_captures.clock(start + at * 3600)[11:16], **{kind: self.day.hours[at, kind] for kind in KINDS}} for at in range(count)]
 
     def rulings(self, mac):
         """How often each ruling was given, by side."""
-        found = collections.Counter()
-        for (_, one, side, ruling), packets in self.counts.items():
-            if one == mac:
-                found[side, ruling] += packets
-        return [{"side": side, "ruling": ruling, "packets": packets} for (side, ruling), packets in sorted(found.items())]
+        return [{"side": side, "ruling": ruling, "packets": packets} for (_, side, ruling), packets in self.of_rulings[mac]]
 
-    def denied(self, mac, url, rows):
+    def denied(self, url, rows):
         """What was denied of a Thing, the most first."""
         found = []
-        for key, row in rows.items():
-            if key[0] == mac:
-                names = self.names.get(key[3], [])
-                found.append({"side": key[1], "ruling": key[2], "peer": key[3], "names": names, "protocol": key[4], "layer": key[5],
-                              "whose": key[6], "port": key[7], "packets": row.packets, "first": row.first, "last": row.last,
-                              "remedy": remedy(key, url, names)})
+        for key, row in rows:
+            names = self.names.get(key[3], [])
+            found.append({"side": key[1], "ruling": key[2], "peer": key[3], "names": names, "protocol": key[4], "layer": key[5],
+                          "whose": key[6], "port": key[7], "packets": row.packets, "first": row.first, "last": row.last,
+                          "remedy": remedy(key, url, names)})
         return sorted(found, key=lambda one: (-one["packets"], one["first"], one["peer"], one["port"]))
 
     def thing(self, row):
@@ -174,28 +163,30 @@ class Told:
         rulings, approved = self.rulings(mac), self.files.approved(url)
         given = {(one["side"], one["ruling"].partition(":")[2]): one["packets"] for one in rulings if one["ruling"][-1].isdigit()}
         entries = [{**entry, "packets": given.get((entry["side"], str(entry["number"])), 0)} for entry in self.files.entries(url)]
-        kinds = collections.Counter()
-        for _, kind, counted, unknown, _, _, packets in self.rows:
-            if mac in {one[0] for one in counted + unknown}:
-                kinds[kind if mac in {one[0] for one in counted} else "unknown"] += packets
+        kinds = {kind: self.day.kinds[mac, kind] for kind in TALKS if self.day.kinds[mac, kind]}
         file = approved and {**approved, **self.changes.verdict(url, approved["sha256"]), "at-hand": url in self.files.said}
         return {**row, "file": file, "waiting": self.files.rows.get(url, {}).get("candidate"), "kinds": kinds, "rulings": rulings, "entries": entries,
-                "unknown": sum(packets for (_, one, *_), packets in self.unknown.items() if one == mac),
-                "denied": self.denied(mac, url, self.day.denied), "begun": self.denied(mac, url, self.day.before),
+                "unknown": self.day.not_known[mac], "denied": self.denied(url, self.of_denied[mac]), "begun": self.denied(url, self.of_before[mac]),
                 "needs": [need["words"] for need in self.files.said[url]["needs"]] if url in self.files.said else [],
                 "changes": self.changes.of_thing(row, self.files.said.get(url))}
 
     def talking(self):
         """Who talks to whom."""
-        found = collections.defaultdict(lambda: dict.fromkeys(("passed", "dropped", "begun", "unknown"), 0))
-        for (mac, peer, kind), packets in self.talks.items():
-            found[mac, peer][kind] += packets
-        return [{"mac": mac, "peer": peer, "names": self.names.get(peer, []), **row} for (mac, peer), row in sorted(found.items())]
+        return [{"mac": mac, "peer": peer, "names": self.names.get(peer, []), **row} for (mac, peer), row in sorted(self.day.talks.items())]
 
     def senders(self):
         """The senders that are no Things, the most first."""
-        rows = [{"mac": mac.hex(":"), **row} for mac, row in self.day.senders.items()]
+        rows = [{"mac": mac if mac == OTHERS else mac.hex(":"), "first": row.first, "last": row.last, "packets": row.packets, "addresses": row.addresses}
+                for mac, row in self.day.senders.items()]
         return sorted(rows, key=lambda row: (-row["packets"], row["mac"]))
+
+
+def by_thing(rows):
+    """Rows by the Thing with which their keys begin."""
+    found = collections.defaultdict(list)
+    for key, row in rows:
+        found[key[0]].append((key, row))
+    return found
 
 
 # ---- Who changed what

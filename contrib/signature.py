@@ -5,6 +5,7 @@ A signature is a detached CMS in DER. Whose it has to be is said by the anchors 
 certificate has to have the key usage digitalSignature; MD5, SHA-1 and short keys are refused.
 """
 import collections
+import json
 import os
 import re
 import subprocess
@@ -19,12 +20,8 @@ CHAINS = {"certificate has expired": "ended", "certificate is not yet valid": "n
           "unable to get local issuer certificate": "another-anchor", "self-signed certificate": "another-anchor",
           "unable to get issuer certificate": "another-anchor", "unable to verify the first certificate": "another-anchor"}
 OLD = re.compile(r"^[ \t]*[a-z ]{0,30}algorithm: [^\n]{0,80}?(md[245]|sha-?1\b|sha1with|with-sha1\b)", re.I | re.M)
-MEANINGS = {
-    "good": "the signature is good", "other-octets": "the signature is one of other octets", "ended": "a certificate of the signature has ended",
-    "not-begun": "a certificate of the signature isn't valid yet", "another-anchor": "the signature doesn't lead to an anchor of this host",
-    "weak": "the signature or its chain is made by MD5, SHA-1 or a short key", "usage": "the signing certificate isn't one for signatures",
-    "unreadable": "the signature can't be read", "no-anchor": "there is no anchor for this host", "no-signature": "the file names no signature",
-    "not-got": "the signature can't be got", "not-checked": "the signature couldn't be checked here"}
+with open(os.path.join(os.path.dirname(os.path.realpath(__file__)), "sentences.json"), encoding="utf-8") as table:
+    MEANINGS = json.load(table)["outcome"]
 # there is a signature and an anchor, and it doesn't hold
 BAD = ("other-octets", "ended", "not-begun", "another-anchor", "weak", "usage", "unreadable")
 

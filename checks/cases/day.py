@@ -5,6 +5,8 @@ commands that the folder names), and from what was made. The page is looked at i
 """
 import base64
 import collections
+import contextlib
+import glob
 import hashlib
 import html.parser
 import json
@@ -19,6 +21,7 @@ from checks import browser, days, program
 from checks.case import ProgramCase, needs, there_is
 from checks.days import AT, CAMERA, CLOUD, DATE, HOUR, HUB, LAPTOP, LAMP, OUTSIDE, PLUG, SENSOR, START, URLS, VIDEO, WEB
 from checks.program import Server, capture, read, run
+from checks.session import acknowledgement
 
 LIBRARIES = "/usr/lib/python3/dist-packages"
 HOLDER = "<b>bert'&\""
@@ -45,14 +48,23 @@ class OfDays(ProgramCase):
         os.mkdir(self.path("files"))
         with Server(1000, self.path("live.db")) as server:
             days.tell_site(server.port, self.path("files"))
+            self.tell_more(days.teller(server.port))
             self.environment = days.environment(self.folder, server.port)
             self.live = self.listed(server.port)
             self.note("the first run, which keeps a copy", (0, b"", b""), self.day()[:3])
             self.listed_after = self.listed(server.port)
         copies = self.path("days/copies")
         os.rename(f"{copies}/{os.listdir(copies)[0]}", f"{copies}/{DATE}.requests.gz")
-        days.Day().write(self.path("captures"), self.cut)
+        self.made = days.Day()
+        self.capture_more(self.made)
+        self.made.write(self.path("captures"), self.cut)
         self.put("changes.log", "".join(self.changes()).encode())
+
+    def tell_more(self, post):
+        """What else the manager knew on the evening before."""
+
+    def capture_more(self, made):
+        """What else was captured."""
 
     def changes(self):
         verdict = json.dumps({"url": URLS[CAMERA], "sha256": digest(days.FILES[CAMERA]), "verdict": "waived"})
@@ -254,6 +266,186 @@ class Made(OfDays):
         self.note("what the served store lists is as before", self.live, self.listed_after)
 
 
+class Moves(OfDays):
+    """More states of leases than are told apart."""
+
+    moves, at = 10, "192.0.2.77"
+
+    def holder(self, hour):
+        return CAMERA if hour % 2 else LAMP
+
+    def capture_more(self, made):
+        """An address that goes each hour from the lamp to the camera or back, and the sensor, which may go to the lamp's port 80."""
+        made.packets = []
+        for hour in range(self.moves + 1):
+            made.dhcp(START + hour * HOUR, self.holder(hour), acknowledgement(self.holder(hour), self.at, 7200), True)
+            made.sent(START + hour * HOUR + 1800, SENSOR, self.at, 50100 + hour, 80, days.SYN)
+
+    def test_states(self):
+        """Of ten moves the first six are told apart; then the last holder counts, and it is told."""
+        ended = self.day(DATE)
+        self.note("status", 0, ended[0])
+        rows = [Row(line) for line in self.of("lines").decode().splitlines()]
+        # behind the sixth hour the last one, the lamp, counts
+        wanted = ["pass" if hour >= 7 or self.holder(hour) == LAMP else "drop" for hour in range(self.moves + 1)]
+        self.note("by hour", wanted, [row.verdict[:4] for row in rows if row.has(self.at, AT[SENSOR])])
+        told = self.told()
+        self.note("states", [0, *(START + hour * HOUR for hour in range(1, 8))], [state["second"] for state in told["states"]])
+        self.note("one", [f"{self.at} goes from {LAMP} to {CAMERA}"], told["states"][1]["words"])
+        words = "leases move 10 times in the day: from here on the last ones count"
+        self.note("the last one", [words], told["states"][-1]["words"])
+        if libraries():
+            self.holds("in the page", words in Page(self.of("report.html")).text)
+
+
+class Refused(OfDays):
+    """Names that the manager refuses."""
+
+    name, most = "many.example.net", 64
+
+    def capture_more(self, made):
+        made.packets = []
+        addresses = [f"198.51.100.{number}" for number in range(100, 100 + self.most + 1)]
+        for at in range(0, len(addresses), 13):
+            made.put(START + HOUR + at, days.GATE, AT[CAMERA], 17, days.udp(53, 40000, days.answer(self.name, *addresses[at:at + 13])), (days.ROUTER, CAMERA))
+
+    def test_names(self):
+        """An address more than a name may have is told, with the rule."""
+        self.note("status", 0, self.day(DATE)[0])
+        refused = self.told()["refused"]
+        self.note("refused", 1, len(refused))
+        self.holds("words", "NameFull" in refused[0] and self.name in refused[0] and "198.51.100.164" in refused[0], refused)
+        self.note("names that are kept", self.most, self.of("report-names").decode().count(f"name {self.name} "))
+        if libraries():
+            self.holds("in the page", refused[0] in Page(self.of("report.html")).text)
+
+
+class TwoDays(OfDays):
+    """A day behind another one."""
+
+    def capture_more(self, made):
+        # on the day before, what the camera does on the day, too
+        for at in (-5 * HOUR, -4 * HOUR):
+            made.sent(START + at, CAMERA, WEB, 50200, 80, days.SYN)
+        made.packets.sort(key=lambda row: row[0])
+
+    def setUp(self):
+        super().setUp()
+        shutil.copy(self.path(f"days/copies/{DATE}.requests.gz"), self.path(f"days/copies/{days.BEFORE}.requests.gz"))
+        self.assertEqual([self.day(date)[0] for date in (days.BEFORE, DATE)], [0, 0])
+
+    def test_first(self):
+        """What was denied on the day before isn't new."""
+        told = self.told()
+        self.note("days before", [days.BEFORE], told["earlier"]["days"])
+        self.note("denied there", [[CAMERA, "from", WEB, "6", "peer", "80"]], told["earlier"]["denied"])
+        self.note("denied here", 5, next(one["packets"] for one in self.thing(CAMERA)["denied"] if one["peer"] == WEB))
+        if libraries():
+            rows = Page(self.of("report.html")).tables["New denials"][1:]
+            self.note("new", {("cams.example.com/camera", OUTSIDE, "100"), ("sensors.example.com/sensor", AT[PLUG], "1"), (URLS[PLUG].removeprefix("https://"), AT[SENSOR], "1"),
+                              (URLS[PLUG].removeprefix("https://"), WEB, "1")}, {(row[0], row[2], row[5]) for row in rows})
+            before = Page(self.of("report.html", days.BEFORE))
+            self.holds("of the first day", "No day before is kept, so all that is denied is new." in before.text)
+
+    def test_sums(self):
+        """A day that was changed is seen by its own sums, and with new ones by the next day's."""
+        self.note("as they are", [0, 0], [self.day("--verify", date)[0] for date in (days.BEFORE, DATE)])
+        folder = self.path(f"days/{days.BEFORE}")
+        with open(f"{folder}/dropped.jsonl", "ab") as file:
+            file.write(b"{}\n")
+        ended = self.day("--verify", days.BEFORE)
+        self.holds("the day itself", ended[0] == 1 and b"dropped.jsonl was changed" in ended[2], ended[2])
+        run("-c", "sha256sum $(ls | grep -v SHA256SUMS) > SHA256SUMS", program="sh", cwd=folder)
+        self.note("its new sums hold", 0, run("-c", "--quiet", "SHA256SUMS", program="sha256sum", cwd=folder).status)
+        ended = self.day("--verify", DATE)
+        self.holds("the next day", ended[0] == 1 and f"../{days.BEFORE}/SHA256SUMS was changed".encode() in ended[2], ended[2])
+        self.note("sha256sum", 1, run("-c", "--quiet", "SHA256SUMS", program="sha256sum", cwd=self.path("days/" + DATE)).status)
+
+
+class Classes(OfDays):
+    """A file that drops, and one that asks for a class."""
+
+    hour_class = "urn:example:hour"
+
+    def tell_more(self, post):
+        # an entry that drops, of the lamp's maker, in place of the lamp's own file
+        dropping = days.usage(URLS[LAMP], ("name", "hub.example.net", 25), forwarding="drop").replace(b"2026-10-01", b"2026-10-02")
+        asking = days.usage(URLS[SENSOR], ("controller", self.hour_class, 37)).replace(b"2026-10-01", b"2026-10-02")
+        for mac, octets in ((LAMP, dropping), (SENSOR, asking)):
+            days.tell_file(post, URLS[mac], octets, self.path("files"))
+
+    def capture_more(self, made):
+        made.packets = []
+        made.sent(START + 60, LAMP, HUB, 50300, 25, days.SYN)
+        made.sent(START + 61, LAMP, HUB, 50301, 26, days.SYN)
+
+    def changes(self):
+        yield days.log_line(START + 8 * HOUR, "carl", "POST", "/classes", json.dumps({"class": self.hour_class, "address": "192.0.2.9"}))
+        yield days.log_line(START + 9 * HOUR, "carl", "POST", "/classes", json.dumps({"class": "urn:example:other", "address": "192.0.2.9"}))
+
+    def test_names(self):
+        """The entry that dropped a packet stands with its names in dropped.jsonl, and its remedy stands in front of it."""
+        self.note("status", 0, self.day(DATE)[0])
+        rows = [json.loads(line)["things"] for line in self.of("dropped.jsonl").splitlines()]
+        end = {"side": "from", "mac": LAMP, "url": URLS[LAMP], "not-known-yet": False}
+        self.note("by an entry", [{**end, "ruling": "drop:1", "entry": 1, "acl": "from & list", "ace": '<from "1">'}], rows[0])
+        self.note("by none", [{**end, "ruling": "drop:no-match"}], rows[1])
+        denied = {one["port"]: one["remedy"] for one in self.thing(LAMP)["denied"]}
+        self.note("in front of which entry", ("from 1", None), (denied["25"].get("before"), denied["26"].get("before")))
+
+    def test_bound(self):
+        """A class that is bound in the day stands at the Thing whose file asks for it, and is bound from the next day on."""
+        self.note("status", 0, self.day(DATE)[0])
+        touched = {mac: [row["words"] for row in self.thing(mac)["changes"]] for mac in (CAMERA, SENSOR, LAMP)}
+        self.note("Things that are touched", [SENSOR], [mac for mac, rows in touched.items() if rows])
+        self.holds("words", len(touched[SENSOR]) == 1 and self.hour_class in touched[SENSOR][0], touched)
+        self.note("changes of the day", ["carl", "carl"], [row["user"] for row in self.told()["changes"]])
+        self.holds("isn't bound yet", self.hour_class.encode() not in self.of("report-classes"))
+
+
+class Living(OfDays):
+    """Long work shows that it lives, and leaves the served store as it was."""
+
+    def at_terminal(self, *words):
+        """What a terminal gets, whose standard error it is."""
+        ours, theirs = os.openpty()
+        process = subprocess.Popen(["contrib/mud-day", "--in", self.folder, *words], env=self.environment, stdin=subprocess.DEVNULL, stdout=subprocess.DEVNULL, stderr=theirs)
+        os.close(theirs)
+        shown = b""
+        with contextlib.suppress(OSError):
+            while more := os.read(ours, 65536):
+                shown += more
+        os.close(ours)
+        self.note("status at a terminal", 0, process.wait())
+        return shown.decode()
+
+    def test_progress(self):
+        shown = self.at_terminal(DATE)
+        parts = [part for part in shown.split("\r\x1b[K") if part.strip()]
+        stages = list(dict.fromkeys(part.partition(":")[0] for part in parts))
+        self.note("stages", ["reading the captures", "telling what was heard", "judging", "writing reports", "drawing the page"], stages)
+        packets = len(self.made.packets)
+        self.holds("packets of how many", any(re.fullmatch(rf"judging: [\d,]+ of {packets:,} packets, up to 20\d\d-\d\d-\d\d [\d:]+", part) for part in parts), parts)
+        self.holds("the line is cleared at the end", shown.endswith("\r\x1b[K"), shown[-80:])
+        self.holds("no line is wider than the terminal", all(len(part) < 80 for part in parts), parts)
+        self.note("where there is no terminal", (0, b"", b""), self.day(DATE)[:3])
+
+    def test_store(self):
+        """'report' of all kinds and 'export' of each Thing are the same before and after, of the store that is served meanwhile."""
+        def told():
+            kinds = ("things", "files", "classes", "locals", "names", "due")
+            return [run("report", self.path("live.db"), kind)[:2] for kind in kinds] + [run("export", self.path("live.db"), mac)[:2] for mac in (CAMERA, SENSOR, LAMP)]
+        before = told()
+        self.note("statuses", {0}, {status for status, _ in before})
+        with Server(1000, self.path("live.db")) as server:
+            served = {"MUD_CONSOLE": f"http://127.0.0.1:{server.port}"}
+            self.note("the day", 0, self.day(DATE, **served)[0])
+            os.unlink(self.path(f"days/copies/{os.listdir(self.path('days/copies'))[0]}"))
+            self.note("another copy", 0, self.day(**served)[0])
+        for what, one, other in zip(("things", "files", "classes", "locals", "names", "due", CAMERA, SENSOR, LAMP), before, told()):
+            self.note(what, one, other)
+
+
 class Bad(OfDays):
     """What is wrong with the input."""
 
@@ -299,7 +491,21 @@ class Bad(OfDays):
         ended = self.day(DATE)
         self.holds("none at all", ended[0] == 1 and b"no copy of the store was kept" in ended[2], ended[2])
         ended = self.day("--wait", "0.1")
+        self.holds("nothing is left of it", not glob.glob(self.path("days/copies/*")))
         self.holds("a console that isn't there", ended[0] == 1 and b"can't be reached" in ended[2], ended[2])
+
+    def test_no_octets(self):
+        """A file whose octets aren't there: no copy is made, which is told, and with --without-missing one without it."""
+        shutil.rmtree(self.path("days/copies"))
+        os.unlink(self.path(f"files/{digest(days.FILES[CAMERA])}.json"))
+        with Server(1000, self.path("live.db")) as server:
+            served = {"MUD_CONSOLE": f"http://127.0.0.1:{server.port}"}
+            ended = self.day(**served)
+            self.holds("words", ended[0] == 1 and f"the approved file of {URLS[CAMERA]} isn't in".encode() in ended[2], ended[2])
+            self.holds("nothing is left of it", not glob.glob(self.path("days/copies/*")))
+            ended = self.day("--without-missing", **served)
+            self.holds("without it", ended[0] == 0 and f"the approved file of {URLS[CAMERA]} isn't in".encode() in ended[2], ended[2])
+            self.note("a copy", 1, len(glob.glob(self.path("days/copies/*"))))
 
     @unittest.skipIf(os.geteuid() != 0, "only root mounts a folder")
     @needs("unshare", "mount")

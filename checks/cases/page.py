@@ -13,7 +13,7 @@ import threading
 import time
 import unittest
 
-from checks import program, texts
+from checks import drafting, program, texts
 from checks.browser import Browser, selenium, within
 from checks.case import ProgramCase, needs
 from checks.program import read, run
@@ -245,6 +245,77 @@ class Operating(OnPage):
         self.holds("no hex", page.says("The frame has to be hex digits"))
         self.whole(page)
 
+    def test_flags(self):
+        """Where the flags of TCP stand: behind tags, options and extension headers; there are none in later fragments."""
+        segment, ends = drafting.tcp(50000, 443, 0x12), ("02:00:00:00:00:01", "02:00:00:00:00:02")
+        hop, part, later = b"\x06\1" + bytes(14), b"\x06\0\0\1" + bytes(4), b"\x06\0\0\x09" + bytes(4)
+        def six(first, octets):
+            return drafting.ethernet(*ends, *drafting.ip("2001:db8::1", "2001:db8::2", first, octets))
+        four = drafting.ethernet(*ends, *drafting.ip("192.0.2.1", "192.0.2.2", 6, segment))
+        options = bytearray(drafting.ethernet(*ends, *drafting.ip("192.0.2.1", "192.0.2.2", 6, bytes(4) + segment)))
+        options[14] = 0x46
+        rows = {"IPv4": (four, 18), "options": (bytes(options), 18), "a tag": (drafting.tagged(four, 7), 18), "two tags": (drafting.tagged(four, 7, 8), 18), "IPv6": (six(6, segment), 18),
+                "hop by hop": (six(0, hop + segment), 18), "two headers": (six(0, b"\x2c" + hop[1:] + part + segment), 18), "first fragment": (six(44, part + segment), 18),
+                "later fragment": (six(44, later + segment), None), "later of IPv4": (drafting.ethernet(*ends, *drafting.ip("192.0.2.1", "192.0.2.2", 6, segment, 185)), None),
+                "UDP": (six(17, drafting.udp(1, 2)), None), "cut": (six(0, hop[:8]), None), "short": (b"\1" * 13, None)}
+        page = self.browser()
+        script = """
+        const [rows, done] = arguments;
+        import("/why.js").then(({tcpFlags}) => done(rows.map((octets) => tcpFlags(Uint8Array.from(octets)))), (fault) => done(String(fault)));
+        """
+        got = page.driver.execute_async_script(script, [list(frame) for frame, _ in rows.values()])
+        self.note("flags", {name: flags for name, (_, flags) in rows.items()}, dict(zip(rows, got)) if isinstance(got, list) else got)
+
+    def test_kept(self):
+        """What was looked at stays open when other files are listed; a file that is dropped by the mouse is taken."""
+        self.approved()
+        page = self.browser("files")
+        page.click("Look")
+        self.holds("its entry", page.says(SENTENCE), page.main())
+        other = self.bulb(**{"mud-url": NEXT})
+        page.drop(self.put("other.json", other))
+        self.holds("the other one waits", page.says(f"The file of {NEXT} waits for your verdict."), page.main())
+        self.note("its octets are kept", other, read("files/" + digest(other) + ".json", self.folder))
+        self.holds("both are listed", page.until(lambda: len(page.buttons("Look")) == 2))
+        self.holds("the look is still open", SENTENCE in page.main(), page.main())
+        self.post("/revokes", body(url=URL))
+        self.holds("and goes with its file", page.until(lambda: SENTENCE not in page.main()))
+        page.drop(self.put("long.json", bytes(300_000)))
+        self.holds("one that is too long", page.says("It has more than 262144 octets."), page.main())
+        self.whole(page)
+
+    def test_log(self):
+        """Of a long log the end is read, then what is new, and all of it by a button."""
+        line = {"time": "2026-11-30T08:00:00+01:00", "user": "bert", "method": "POST", "path": "/holds", "body": "", "status": "200"}
+        with open(self.site.path("log/changes.log"), "a", encoding="ascii") as file:
+            for number in range(2000):
+                mac = "02:00:00:01:%02x:%02x" % divmod(number, 256)
+                file.write(json.dumps({**line, "body": json.dumps({"mac": mac})}) + "\n")
+        self.approved()
+        page = self.browser("changes")
+        self.holds("the newest", page.says("held 02:00:00:01:07:cf"), page.main())
+        self.holds("older ones aren't", page.says("Older ones aren't read yet."))
+        self.note("of their number", True, "The newest 200 of 2000." not in page.main())
+        page.view("Things")
+        page.click("Hold")
+        page.says(f"{MAC} is held")
+        page.view("Changes")
+        self.holds("the new one", page.says(f"held {MAC}"), page.main())
+        read_again = "return performance.getEntriesByType('resource').filter((one) => one.name.endsWith('changes.log')).map((one) => one.encodedBodySize)"
+        page.click("Read again")
+        self.holds("the newest stays first", page.until(lambda: f"held {MAC}" in page.main()))
+        page.until(lambda: len(page.driver.execute_script(read_again)) >= 3)
+        sizes = page.driver.execute_script(read_again)
+        self.holds("what is read", max(sizes) <= 65536 and sizes[-1] < 2000, sizes)
+        page.click("Read all of today")
+        self.holds("all of it", page.says("The newest 200 of 2001."), page.main())
+        self.holds("nothing more is to be read", "Older ones aren't read yet." not in page.main())
+        # a log that is begun anew
+        with open(self.site.path("log/changes.log"), "w", encoding="ascii") as file:
+            file.write(json.dumps({**line, "body": '{"mac":"02:00:00:02:00:00"}'}) + "\n")
+        page.click("Read again")
+        self.holds("of a new log", page.until(lambda: "held 02:00:00:02:00:00" in page.main() and MAC not in page.main()), page.main())
+        self.whole(page)
 
     def test_keyboard(self):
         """By the keys alone: to a view, to a Thing's hold, and out of a question back."""
@@ -276,6 +347,27 @@ class Refusing(OnPage):
         self.note("the store", (sha256, digest(second)), tuple(self.site.told("/files")["files"][0][which]["sha256"] for which in ("approved", "candidate")))
         self.holds("the new one is shown", page.says(digest(second)))
         self.note("and can't be approved unseen", {False}, {one.is_enabled() for one in page.buttons("Approve, no signature checked")})
+
+    def test_networks(self):
+        """What another operator set since isn't undone unseen."""
+        self.post("/locals", body(prefixes=["192.0.2.0/24"]), "PUT")
+        page = self.browser("names")
+        page.says("Local networks")
+        page.fill("Networks", "192.0.2.0/25")
+        self.post("/locals", body(prefixes=["198.51.100.0/24"]), "PUT")
+        page.click("Set")
+        self.holds("it is said", page.says("Nothing was set: somebody has set other ones meanwhile, 198.51.100.0/24."), page.main())
+        self.note("the store", ["198.51.100.0/24"], self.site.told("/locals")["locals"])
+        page.click("Set")
+        self.holds("once more", page.says("Local networks: set."), page.main())
+        self.note("the store then", ["192.0.2.0/25"], self.site.told("/locals")["locals"])
+        page.fill("Networks", "192.0.2.0/99")
+        page.click("Set")
+        self.holds("one of another form", page.says("A field has another form than it has to have"), page.main())
+        page.fill("Networks", "192.0.2.0/26")
+        page.click("Set")
+        self.holds("and a right one", page.until(lambda: self.site.told("/locals")["locals"] == ["192.0.2.0/26"]), page.main())
+        self.whole(page)
 
     def test_digests(self):
         """Octets of another digest, and octets that aren't there: nothing is shown, and nothing can be approved."""

@@ -4,6 +4,8 @@ import {button, element, table, text} from "/elements.js";
 
 const FOR_EVER = 4294967295;
 const FIRST = 200;
+// so many octets of the log's end are read at first
+const LAST = 65536;
 const VERDICTS = {
   verified: "approved, having checked its signature,",
   waived: "approved, no signature being checked,",
@@ -65,7 +67,11 @@ async function changeOf(row) {
 }
 
 export function changesView(view) {
+  // the newest first; the places in the log at which they begin, and behind which nothing was read yet
   let rows = [];
+  let begin = 0;
+  let end = null;
+  let loading = Promise.resolve();
   const place = element("div");
   const filter = (label) =>
     element("input", {class: "form-control", "aria-label": label, placeholder: label, input: () => show()});
@@ -81,21 +87,37 @@ export function changesView(view) {
         element("p", {}, "No change is in the log of today."));
     if (found.length > FIRST)
       place.append(element("p", {class: "quiet"}, `The newest ${FIRST} of ${found.length}.`));
+    if (begin > 0)
+      place.append(
+        element("p", {class: "quiet"}, "Older ones aren't read yet. "),
+        button("Read all of today", () => load(true)));
   };
-  const load = async () => {
+  /** Reads what is new in the log, or all of it. */
+  const read = async (all) => {
     try {
-      rows = await Promise.all((await changes()).reverse().map(changeOf));
+      let more = all || end === null ? null : await changes(end);
+      if (more === null) {
+        rows = [];
+        more = await changes(all ? 0 : -LAST);
+        ({begin} = more);
+      }
+      ({end} = more);
+      rows = [...await Promise.all(more.rows.reverse().map(changeOf)), ...rows];
       show();
     } catch (fault) {
       if (!(fault instanceof Fault)) throw fault;
       place.replaceChildren(element("p", {role: "alert"}, fault.message));
     }
   };
+  const load = (all = false) => {
+    loading = loading.then(() => read(all));
+    return loading;
+  };
   view.append(
     element("p", {class: "quiet"}, "The log of today. 'changes' says those of other days."),
     element(
       "div", {class: "row-of-fields mb-2"}, element("label", {}, thing), element("label", {}, user),
-      button("Read again", load)),
+      button("Read again", () => load())),
     place);
   return (name) => {
     if (name === null || name !== "due") load();

@@ -1,6 +1,7 @@
 // The manager's console, by the site's paths, and the folder of files beside it.
 
-const MOST = 262144;
+export const MOST = 262144;
+const NEWLINE = 10;
 const SITE = {
   401: "The site wants a name and a password.",
   403: "The site refuses it.",
@@ -158,20 +159,32 @@ export async function post(octets) {
   return {...answer, sha256};
 }
 
-/** The lines of the log of changes, each as an object whose body has a letter for each octet. */
-export async function changes() {
-  const [answer, octets] = await asked("/log/changes.log");
-  if (answer.status === 404) return [];
+/**
+ * What stands in the log of changes from a place on, or where that is negative so many octets before its end:
+ * the lines that are whole, each as an object whose body has a letter for each octet, the place at which they
+ * begin, and the one behind them. Null where the log is a new one by now, which ends before that place.
+ */
+export async function changes(from) {
+  const range = from < 0 ? `bytes=${from}` : `bytes=${from}-`;
+  const [answer, octets] = await asked("/log/changes.log", {headers: {Range: range}});
+  if (answer.status === 404) return {rows: [], begin: 0, end: 0};
+  const [, first, size] = /^bytes (?:(\d+)-\d+|\*)\/(\d+)$/.exec(answer.headers.get("Content-Range")) ?? [];
+  if (answer.status === 416) return Number(size) < from ? null : {rows: [], begin: from, end: from};
   if (!answer.ok)
     throw new Fault(SITE[answer.status] ?? `The log of changes is answered ${answer.status}.`, answer.status);
+  const place = Number(first ?? 0);
+  // within the log the first line is cut, but where it was asked for from its beginning on
+  const begin = from < 0 && place > 0 ? octets.indexOf(NEWLINE) + 1 : 0;
+  const end = octets.lastIndexOf(NEWLINE) + 1;
   let letters = "";
-  for (let at = 0; at < octets.length; at += 8192)
-    letters += String.fromCharCode(...octets.subarray(at, at + 8192));
-  return letters.split("\n").filter(Boolean).flatMap((line) => {
+  for (let at = begin; at < end; at += 8192)
+    letters += String.fromCharCode(...octets.subarray(at, Math.min(at + 8192, end)));
+  const rows = letters.split("\n").filter(Boolean).flatMap((line) => {
     try {
       return [JSON.parse(line)];
     } catch {
       return [];
     }
   });
+  return {rows, begin: place + begin, end: place + Math.max(begin, end)};
 }

@@ -1,22 +1,8 @@
 // The view of usage files: what is in force, what waits, what each allows, and the operator's verdict.
-import {Fault, octetsOf, outcomeOf, post} from "/console.js";
+import {Fault, MOST, octetsOf, outcomeOf, post} from "/console.js";
 import {asks, button, element, moment, say, text, visible} from "/elements.js";
 import {read} from "/usage.js";
 import {changes, escaped, fill, refusal, SAYS, sentences} from "/words.js";
-
-const OUTCOMES = {
-  good: "the signature is good",
-  "other-octets": "the signature is one of other octets",
-  ended: "a certificate of the signature has ended",
-  "not-begun": "a certificate of the signature isn't valid yet",
-  "another-anchor": "the signature doesn't lead to an anchor of this host",
-  weak: "the signature or its chain is made by MD5, SHA-1 or a short key",
-  usage: "the signing certificate isn't one for signatures",
-  unreadable: "the signature can't be read",
-  "no-anchor": "there is no anchor for this host",
-  "no-signature": "the file names no signature",
-  "not-got": "the signature can't be got",
-};
 
 function entryLine(entry, look = "") {
   return element(
@@ -63,7 +49,7 @@ function headLines(file) {
 async function outcomeLine(sha256, place) {
   const outcome = await outcomeOf(sha256);
   const words =
-    outcome ? OUTCOMES[outcome.word] ?? visible(String(outcome.word)) : "nobody has checked a signature";
+    outcome ? SAYS.outcome[outcome.word] ?? visible(String(outcome.word)) : "nobody has checked a signature";
   const signer = outcome?.signer ? `; signed by ${visible(outcome.signer)}, whose issuer is ${
                                      visible(outcome.issuer)}, until ${visible(outcome.ends)}` :
                                    "";
@@ -85,9 +71,12 @@ function panel(title, row, which, does) {
     signature, element("div", {class: "deeds"}, looks), verdicts, shown);
 }
 
+// the digests that were computed of files that wait, by their rows
+const looked = new WeakMap();
+
 function candidateDeeds(row, does) {
   const verdict = (word, said) => () =>
-    does.change("POST", "/verdicts", {url: row.url, sha256: row.candidate.looked, verdict: word}, () => said);
+    does.change("POST", "/verdicts", {url: row.url, sha256: looked.get(row), verdict: word}, () => said);
   const approve = (words, word) => button(
     words, verdict(word, `The file of ${row.url} is in force.`), "success",
     {disabled: true, class: "btn btn-sm btn-success approves"});
@@ -136,7 +125,7 @@ async function look(row, which, shown, verdicts) {
     } else
       parts.push(entryList(file));
     shown.replaceChildren(...parts);
-    row[which].looked = sha256;
+    if (which === "candidate") looked.set(row, sha256);
     approves.forEach((approve) => {
       approve.disabled = false;
     });
@@ -151,8 +140,10 @@ async function look(row, which, shown, verdicts) {
 
 /** Posts a file that was dropped, and says what became of it. */
 async function take(file, said, does) {
-  const octets = new Uint8Array(await file.arrayBuffer());
+  // a file that is too long isn't read into memory
+  const octets = new Uint8Array(file.size > MOST ? 0 : await file.arrayBuffer());
   try {
+    if (file.size > MOST) throw new Fault(`It has more than ${MOST} octets.`);
     const answer = await post(octets);
     say(
       answer.result === "new" ? `The file of ${answer.url} waits for your verdict.` :
@@ -205,17 +196,27 @@ function dropPlace(said, does) {
 export function filesView(view, tables, does) {
   const [said, place] = [element("div"), element("div")];
   view.append(dropPlace(said, does), said, place);
+  // what was looked at stays open while the same file is listed
+  let panels = new Map();
   return (name) => {
     if (!tables.files || (name && name !== "files" && name !== "due")) return;
     const due = new Set(tables.due ?? []);
     // what waits for the operator stands first
     const rows = [...tables.files].sort((a, b) => (b.candidate ? 1 : 0) - (a.candidate ? 1 : 0));
+    const kept = new Map();
+    const keptPanel = (title, row, which) => {
+      const beside = which === "candidate" ? row.approved?.sha256 : null;
+      const key = JSON.stringify([which, row.url, row[which], beside]);
+      kept.set(key, panels.get(key) ?? panel(title, row, which, does));
+      return kept.get(key);
+    };
     place.replaceChildren(...rows.map(
       (row) => element(
         "article", {}, element("h3", {}, text(row.url), due.has(row.url) ? " (due)" : ""),
         element(
-          "div", {class: "beside"}, row.candidate ? panel("Waits", row, "candidate", does) : null,
-          row.approved ? panel("In force", row, "approved", does) : null))));
+          "div", {class: "beside"}, row.candidate ? keptPanel("Waits", row, "candidate") : null,
+          row.approved ? keptPanel("In force", row, "approved") : null))));
+    panels = kept;
     if (!rows.length) place.append(element("p", {}, "No file is held."));
   };
 }

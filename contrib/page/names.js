@@ -1,7 +1,7 @@
 // The view of classes, local networks and names; what approved files ask for and nobody has bound stands
 // first.
-import {octetsOf} from "/console.js";
-import {button, element, field, form, living, table, text} from "/elements.js";
+import {Fault, listing, octetsOf} from "/console.js";
+import {button, element, field, form, living, say, table, text} from "/elements.js";
 import {read} from "/usage.js";
 import {needs} from "/words.js";
 
@@ -101,18 +101,57 @@ function forms(does) {
   return {bind, name};
 }
 
+/**
+ * The form of the local networks, which are set together. What another operator set since they were shown
+ * isn't undone unseen.
+ */
+function localsForm(tables, does) {
+  const networks = field("Networks, one a line", "prefixes", {rows: 3});
+  const area = networks.querySelector("textarea");
+  const others = element("p", {role: "status"});
+  let shown = "";
+  const refresh = () => {
+    const listed = tables.locals.join("\n");
+    if (area.value === shown || area.value === listed) {
+      area.value = shown = listed;
+      others.replaceChildren();
+    }
+  };
+  const set = async ({prefixes}) => {
+    const listed = (await listing("locals")).join("\n");
+    if (listed !== shown) {
+      shown = listed;
+      others.replaceChildren(
+        "Nothing was set: somebody has set other ones meanwhile, ",
+        text(listed.replaceAll("\n", ", ") || "none"),
+        ". Set them once more, if yours are to stand in their place.");
+      return false;
+    }
+    others.replaceChildren();
+    const isDone = await does.change(
+      "PUT", "/locals", {prefixes: prefixes.split(/\s+/).filter(Boolean)},
+      ({result}) => `Local networks: ${result}.`);
+    if (isDone) area.value = shown = tables.locals.join("\n");
+    return false;
+  };
+  const saved = async (values) => {
+    try {
+      return await set(values);
+    } catch (fault) {
+      if (!(fault instanceof Fault)) throw fault;
+      say(fault.message);
+      return false;
+    }
+  };
+  return {locals: element("div", {}, form([networks], "Set", saved), others), refresh};
+}
+
 export function namesView(view, tables, does) {
   const {bind, name: tell} = forms(does);
   const [first, classes, names] = [element("div"), element("div"), element("div")];
-  const networks = field("Networks, one a line", "prefixes", {rows: 3});
-  const locals = form(
-    [networks], "Set",
-    ({prefixes}) => does
-                      .change(
-                        "PUT", "/locals", {prefixes: prefixes.split(/\s+/).filter(Boolean)},
-                        ({result}) => `Local networks: ${result}.`)
-                      .then(() => false));
+  const {locals, refresh} = localsForm(tables, does);
   let all = false;
+  let turn = 0;
   const filter = element("input", {
     class: "form-control",
     placeholder: "Part of a name",
@@ -143,8 +182,11 @@ export function namesView(view, tables, does) {
       classes.replaceChildren(
         table(["Kind", "Class or URL", "Address", ""], classRows(tables.classes, does), "Classes"));
       showNames();
-      if (!name || name === "locals") networks.querySelector("textarea").value = tables.locals.join("\n");
+      refresh();
     }
-    first.replaceChildren(...missingPart(await missing(tables), fills).filter(Boolean));
+    // files are read one by one, and meanwhile what is there may be listed anew
+    const own = turn += 1;
+    const found = await missing(tables);
+    if (own === turn) first.replaceChildren(...missingPart(found, fills).filter(Boolean));
   };
 }

@@ -4,6 +4,8 @@ import {element, field, form, text, visible} from "/elements.js";
 import {read} from "/usage.js";
 import {sentence} from "/words.js";
 
+const [IPV4, IPV6, VLANS, TAGS] = [0x0800, 0x86dd, [0x8100, 0x88a8], 2];
+const [TCP, FRAGMENT, EXTENSIONS, HEADERS] = [6, 44, [0, 43, 44, 60], 8];
 const SYN = 2;
 const ACK = 16;
 const WORDS = {
@@ -22,13 +24,26 @@ function octetsFrom(digits) {
   return Uint8Array.from(bare.match(/../g), (pair) => parseInt(pair, 16));
 }
 
-/** The flags of a frame's TCP header, or null where it has none at its usual place. */
+/** The flags of a frame's TCP header, or null where it has none. */
 export function tcpFlags(frame) {
-  const at = frame[12] === 0x81 && frame[13] === 0 ? 18 : 14;
-  const type = frame[at - 2] * 256 + frame[at - 1];
-  if (type === 0x0800 && frame[at + 9] === 6) return frame[at + (frame[at] & 15) * 4 + 13] ?? null;
-  if (type === 0x86dd && frame[at + 6] === 6) return frame[at + 53] ?? null;
-  return null;
+  const word = (place) => frame[place] * 256 + frame[place + 1];
+  let at = 12;
+  for (let tags = 0; tags < TAGS && VLANS.includes(word(at)); tags += 1) at += 4;
+  const type = word(at);
+  at += 2;
+  if (type === IPV4) {
+    const isFirst = (word(at + 6) & 0x1fff) === 0;
+    return frame[at + 9] === TCP && isFirst ? frame[at + (frame[at] & 15) * 4 + 13] ?? null : null;
+  }
+  if (type !== IPV6) return null;
+  let next = frame[at + 6];
+  at += 40;
+  for (let headers = 0; headers < HEADERS && EXTENSIONS.includes(next); headers += 1) {
+    if (next === FRAGMENT && word(at + 2) >> 3 !== 0) return null;
+    const length = next === FRAGMENT ? 8 : 8 * (frame[at + 1] + 1);
+    [next, at] = [frame[at], at + length];
+  }
+  return next === TCP ? frame[at + 13] ?? null : null;
 }
 
 /** The entry of an approved file that decided, or null where its octets aren't at hand. */

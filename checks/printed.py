@@ -1,8 +1,14 @@
 """What checks/print prints, as texts."""
 import itertools
+import os
+import re
 
 from checks import texts
 
+SCRIPTS = ("checks/*", "checks/cases/*", "bench/*", "fuzz/*", "man/make", "packaging/deb")
+# what looks at contrib/, at the package and at a year: counted apart
+APART = """access a_year bridge_rules browser copies day days draft drafting explain explained_verdicts explaining fetch makers package page
+    site two_builds watching year""".split()
 PROGRAM = "crates/mud_cli/src/run.rt"
 CALL = "mud_main"
 
@@ -60,3 +66,13 @@ def trusted():
     crates = {module.split(".")[1] for module in modules}
     return "\n".join([*parts, f"\n{len(found)} definitions of {sum(size.values())} lines, in {len(modules)} files of "
                               f"{len(crates)} crates; {len(types)} types of the code"])
+
+
+def lines():
+    """The lines of each script, how many there are in all, and how many of these a shell reads. Tables, pages and forms are none."""
+    size = {path: len(texts.lines(path)) for path in texts.files(*SCRIPTS) if path.endswith(".py") or texts.read(path).startswith("#!")}
+    apart = [path for path in size if os.path.basename(path).removesuffix(".py") in APART]
+    shell = sum(size[path] for path in size if re.match("#!.*sh$", texts.lines(path)[0]))
+    whole = sum(size[path] for path in size if path not in apart)
+    rows = [f"{size[path]:5} {path}{'  apart' if path in apart else ''}" for path in sorted(size, key=lambda path: -size[path])]
+    return "\n".join([*rows, f"{whole} lines, {shell} of them of a shell; {sum(size[path] for path in apart)} apart"])

@@ -273,30 +273,31 @@ class Edit:
             self.kind, self.crate = "must-fail", path.split("/")[1]
         self.name = os.path.basename(path)
 
-    def fault(self):
-        """Why it can't be applied; None where it can."""
+    def applied(self):
+        """The texts of the files that it changes, by their paths; a ValueError says why it can't be applied."""
         was, now, path, old = {}, {}, None, None
         for line in lines(self.path):
             if line.startswith("file: "):
-                path = line[6:]
-                if not re.match("(src|specs|proofs)/", path) or re.search(r"(^|/)\.\.?(/|$)", path):
-                    return f"'{path}' is no file below src/, specs/ or proofs/"
-                there = f"crates/{self.crate}/{path}"
-                if not os.path.isfile(os.path.join(HERE, there)) or not read(there):
-                    return f"there is no file {path}"
-                was[path] = read(there)
+                path = f"crates/{self.crate}/{line[6:]}"
+                if not re.match("(src|specs|proofs)/", line[6:]) or re.search(r"(^|/)\.\.?(/|$)", line[6:]):
+                    raise ValueError(f"'{line[6:]}' is no file below src/, specs/ or proofs/")
+                if not os.path.isfile(os.path.join(HERE, path)) or not read(path):
+                    raise ValueError(f"there is no file {line[6:]}")
+                was[path] = read(path)
                 now.setdefault(path, was[path])
             elif line.startswith("old: "):
                 old = line[5:]
             elif line.startswith("new:"):
                 if path is None or not old:
-                    return "a new text stands before any file or old text"
+                    raise ValueError("a new text stands before any file or old text")
                 if now[path].count(old) != 1:
-                    return f"{path} has this old text {now[path].count(old)} times, and not once: {old}"
+                    raise ValueError(f"{path} has this old text {now[path].count(old)} times, and not once: {old}")
                 now[path] = now[path].replace(old, line[4:].removeprefix(" "))
                 old = None
             elif line:
-                return f"this line is none of file, old and new: {line}"
+                raise ValueError(f"this line is none of file, old and new: {line}")
         if not was:
-            return "it has no old and new text"
-        return None if now != was else "it changes nothing"
+            raise ValueError("it has no old and new text")
+        if now == was:
+            raise ValueError("it changes nothing")
+        return now

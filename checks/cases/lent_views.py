@@ -15,35 +15,6 @@ from checks.case import Case, needs
 
 BELOW = {"kept_view": "acl_rows desk_model mud_base mud_desk mud_world base_rows".split()}
 READERS = ("acl_rows", "acl_buckets", "acl_changes", "acl_compile", "packet_judge")
-CODE = """//! A view of the rows of a desk, and a command.
-#![tactic(auto)]
-ghost use Rattle.std.specs.Prelude.{◌≡◌};
-ghost use Rattle.desk_model.specs.Commands.{IsAsked};
-ghost use Rattle.desk_model.specs.Kept.{IsKept};
-ghost use Rattle.mud_desk.specs.DeskState.{tables_of};
-
-use desk_model::Command;
-use mud_base::{Direction, Mac, Moment};
-use mud_desk::Desk;
-use mud_world::Keeper;
-use base_rows::Steps;
-use std::sync::ledger::Ledger;
-
-/// Whether a Thing has the hardware address; and a command.
-pub fn look_and_command<K: Keeper, L: Ledger>(
-    desk: &mut Desk<K>,
-    mac: Mac,
-    command: Command,
-    now: Moment,
-    steps: &mut Steps<L>,
-) -> bool
-    requires kept { IsKept ⟦<K as Keeper>⟧ desk.old.keeper (tables_of desk.old.state) }
-    requires asked { IsAsked command }
-{
-    let view = desk.rules(mac, Direction::From);
-%s
-}
-"""
 IN_FRONT = "    let is_thing = view.is_some();\n    let _reply = desk.command(command, now, steps);\n    is_thing"
 BEHIND = "    let _reply = desk.command(command, now, steps);\n    view.is_some()"
 
@@ -84,7 +55,7 @@ class LentViews(Case):
     def proved(self, folder, body):
         """The status of rt on the function with this body, and what it says."""
         with open(f"{folder}/crates/kept_view/src/lib.rt", "w", encoding="utf-8") as source:
-            source.write(CODE % body)
+            source.write(texts.read("checks/kept_view.rt.in").replace("%s\n", body + "\n"))
         subprocess.run(["rt", "fmt"], cwd=f"{folder}/crates/kept_view", stdout=subprocess.DEVNULL, check=True)
         ran = subprocess.run(["rt", "ci"], cwd=folder, stdin=subprocess.DEVNULL, stdout=subprocess.PIPE, stderr=subprocess.STDOUT, check=False)
         return ran.returncode, ran.stdout.decode("utf-8", "replace")

@@ -14,7 +14,11 @@ def fault_of(edit):
         return f"crates.txt has no {edit.crate}"
     if edit.kind == "plants" and os.path.exists(os.path.join(texts.HERE, f"crates/{edit.crate}/must-fail/{edit.name}")):
         return f"crates/{edit.crate}/must-fail has an edit of this name"
-    return edit.fault()
+    try:
+        edit.applied()
+    except ValueError as fault:
+        return str(fault)
+    return None
 
 
 class Plants(Case):

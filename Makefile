@@ -2,7 +2,8 @@
 # make test       runs the merge gate: every proof, and the quick ones of the repository's own checks
 # make checks     runs the own checks of the pages and of the built program, with those that take minutes
 # make proofs     prints each clause of each public call, with the comment beside it
-# make trusted    prints the definitions that the contract of the program rests on, by chapter
+# make trusted    prints the definitions that the contract of the program rests on, by chapter, with how much text they
+#                 are; COMMAND=judge: what it says of that command
 # make limits     runs into the limits that take minutes to reach, and keeps the program at work for a year
 # make memory     runs the program with each allocation failing in turn
 # make twice      builds the program once more, in a folder of another name, and compares the two
@@ -42,7 +43,7 @@ proofs:
 	@checks/print proofs
 
 trusted:
-	@checks/print trusted
+	@checks/print trusted $(if $(COMMAND),--command $(COMMAND))
 
 limits: build
 	checks/run -j "$$(nproc)" far-limits a-year busy-day

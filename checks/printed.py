@@ -11,6 +11,9 @@ APART = """access a_year bridge_rules browser copies day days draft drafting exp
     site two_builds watching year""".split()
 PROGRAM = "crates/mud_cli/src/run.rt"
 CALL = "mud_main"
+# the definition that has a case for each command, and the traits of the outside
+BY_COMMAND = ("Rattle.mud_cli.specs.Runs", "Does")
+OUTSIDE = [f"crates/mud_world/src/{name}.rt" for name in ("door", "keeper", "spool", "clock")]
 
 CHAPTERS = {
     "Values": "mud_base base_rows",
@@ -42,25 +45,36 @@ def proofs(crates):
     return "\n".join([*parts, f"\n{len(clauses)} clauses"])
 
 
-def believed(specs):
-    """The definitions that the contract of the program rests on, and the types of the code."""
-    return specs.rests_on(specs.named_by(PROGRAM, CALL))
+def commands():
+    """The commands of the program, as its words name them, each with its name in definitions."""
+    module, name = BY_COMMAND
+    cases = re.findall(rf"^{name} \(?(\w+)", "\n".join(texts.Specs().definitions[module][name]), re.M)
+    return {case.lower(): case for case in cases}
 
 
-def trusted():
-    """These definitions by chapter, and how many there are."""
+def believed(specs, command=None):
+    """The definitions that the contract of the program rests on, or what it says of one command, those that give the
+    outside its meaning, and the types of the code."""
+    roots = {BY_COMMAND} if command else specs.named_by(PROGRAM, CALL)
+    if command:
+        names = commands()
+        specs.keep_case(names[command], names.values())
+    return specs.rests_on(roots.union(*map(specs.named_by_trait, OUTSIDE)))
+
+
+def trusted(command=None):
+    """These definitions by chapter, and how much text they are."""
     specs = texts.Specs()
-    found, types = believed(specs)
+    found, types = believed(specs, command)
     chapter_of = {crate: title for title, crates in CHAPTERS.items() for crate in crates.split()}
-    size = {key: len(specs.definitions[key[0]][key[1]]) for key in found}
     parts = []
     for title in CHAPTERS:
         keys = sorted(key for key in found if chapter_of.get(key[0].split(".")[1], "Other") == title)
         if keys:
-            parts.append(f"\n== {title}: {len(keys)} definitions, {sum(size[key] for key in keys)} lines")
+            parts.append(f"\n== {title}: {size_said(specs, keys)}")
         for module, of_module in itertools.groupby(keys, lambda key: key[0]):
             of_module = list(of_module)
-            parts.append(f"\n{specs.path[module]} ({sum(size[key] for key in of_module)} lines)")
+            parts.append(f"\n{specs.path[module]} ({size_said(specs, of_module)})")
             parts.append("  " + ", ".join(name for _, name in of_module))
     modules = {module for module, _ in found}
     crates = {module.split(".")[1] for module in modules}
@@ -76,3 +90,14 @@ def lines():
     whole = sum(size[path] for path in size if path not in apart)
     rows = [f"{size[path]:5} {path}{'  apart' if path in apart else ''}" for path in sorted(size, key=lambda path: -size[path])]
     return "\n".join([*rows, f"{whole} lines, {shell} of them of a shell; {sum(size[path] for path in apart)} apart"])
+    return "\n".join([*parts, f"\n{size_said(specs, found)}, in {len({module for module, _ in found})} files; "
+                              f"{len(types)} types of the code"])
+def sizes(specs, keys):
+    """How many definitions these are, how many parts stand behind a 'where' of theirs, and their lines and tokens."""
+    rows = [specs.definitions[module][name] for module, name in keys]
+    parts = sum(len(texts.parts_of(of_one)) for of_one in rows)
+    return len(rows), parts, *map(sum, zip(*map(texts.size_of, rows)))
+def size_said(specs, keys):
+    definitions, parts, lines, tokens = sizes(specs, keys)
+    behind = f" with {parts} parts" if parts else ""
+    return f"{definitions} definition{'s' * (definitions > 1)}{behind}, {lines} lines, {tokens} tokens"

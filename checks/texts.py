@@ -176,16 +176,18 @@ def imports_of(text, pattern):
 
 def definitions_of(text):
     """The definitions of a file of specs/: their names, each with its lines. A part that stands behind a
-    'where' belongs to its definition; the bracket that ends a record stands at the margin."""
-    rows, inside = [], False
+    'where' belongs to its definition; the bracket that ends a record stands at the margin. What stands in a
+    module, or in one within it, is read as if it stood at the margin; a comment ends no module."""
+    rows, modules = [], []
     for line in text.split("\n"):
-        if line.startswith("module "):
-            inside = True
-            rows.append("--")
-            continue
-        if inside and line.strip() and not line.startswith(" "):
-            inside = False
-        rows.append(line[2:] if inside and line.startswith("  ") else line)
+        bare = line.lstrip()
+        indent = len(line) - len(bare)
+        while bare and not bare.startswith("--") and modules and indent <= modules[-1]:
+            modules.pop()
+        if bare.startswith("module "):
+            modules.append(indent)
+            line = "--"
+        rows.append(line[min(indent, 2 * len(modules)):])
     found, name = {}, None
     for line in filter(str.strip, rows):
         if line.startswith((" ", "}", ")")) and name:
@@ -196,6 +198,27 @@ def definitions_of(text):
         if name:
             found.setdefault(name, []).append(line)
     return found
+
+
+def parts_of(rows):
+    """The names of the parts of a definition that stand behind its 'where', or behind that of a part."""
+    found, depths = [], []
+    for row in rows:
+        indent = len(row) - len(row.lstrip())
+        while depths and indent <= depths[-1]:
+            depths.pop()
+        part = re.match(r" *(?:abbrev |unfoldable )?([\w'\-]+) :", row)
+        if depths and indent == depths[-1] + 2 and part:
+            found.append(part[1])
+        if row.strip() == "where":
+            depths.append(indent)
+    return found
+
+
+def size_of(rows):
+    """How many lines and how many tokens these lines have without their comments: a token is a word, a number or a sign."""
+    bare = list(filter(str.strip, (re.sub("--.*", "", row) for row in rows)))
+    return len(bare), sum(len(re.findall(r"[\w'\-]+|[^\w\s]", row)) for row in bare)
 
 
 def named_in(text, names, modules, own=None):
@@ -234,6 +257,23 @@ class Specs:
         text = read(path)
         start = text.index("pub fn " + call)
         return set(named_in(text[start:text.index("\n{", start)], *imports_of(text, GHOST_IMPORTS)))
+
+    def named_by_trait(self, path):
+        """What the clauses of the trait of a source file name: they say what its members mean."""
+        text = re.sub("//.*", "", read(path))
+        start = text.index("\npub trait ")
+        return set(named_in(text[start:text.index("\n}", start)], *imports_of(text, GHOST_IMPORTS)))
+
+    def keep_case(self, word, words):
+        """Leaves of each definition that has a case for all of these words its head and the case of one of them."""
+        for definitions in self.definitions.values():
+            for name, rows in definitions.items():
+                cases = [re.match(rf"{re.escape(name)} \(?(\w+)", row) for row in rows]
+                if set(words) <= {case[1] for case in cases if case}:
+                    definitions[name], is_kept = [], True
+                    for row, case in zip(rows, cases):
+                        is_kept = case[1] == word if case else is_kept
+                        definitions[name] += [row] if is_kept else []
 
     def rests_on(self, roots):
         """The definitions that these rest on, and the types of the code among them."""

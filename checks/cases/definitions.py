@@ -73,8 +73,10 @@ class Definitions(Case):
 
     def test_numbers(self):
         """docs/CLAIMS.md says no smaller numbers than are counted."""
-        found, _ = printed.believed(texts.Specs())
-        counted = [len(found), len({module for module, _ in found})]
-        claim = re.search(r"at most ([\d,]+) definitions in ([\d,]+) files", texts.read("docs/CLAIMS.md"))
+        specs = texts.Specs()
+        found, _ = printed.believed(specs)
+        counted = [*printed.sizes(specs, found), len({module for module, _ in found})]
+        claim = re.search(r"at most ([\d,]+) definitions with ([\d,]+) parts behind a `where`, ([\d,]+) lines and ([\d,]+) tokens"
+                          r" without comments, in ([\d,]+) files", texts.read("docs/CLAIMS.md"))
         good = claim and all(int(number.replace(",", "")) >= count for number, count in zip(claim.groups(), counted))
-        self.holds("numbers", good, f"docs/CLAIMS.md: it doesn't say 'at most N definitions in M files' of {counted[0]} in {counted[1]}")
+        self.holds("numbers", good, f"docs/CLAIMS.md: its numbers of what is trusted aren't at least {counted}")

@@ -26,7 +26,7 @@ CHAPTERS = {
     "Lists for a switch": "rule_export",
     "The engine": "acl_rows acl_compile acl_buckets acl_changes table_laws thing_book bind_book file_cache desk_books mud_desk",
     "The console": "http_requests console_routes console_bodies console_answers console_listings console",
-    "The program": "text_values run_words run_advice run_common run_captures run_desk run_packets run_reports run_drills mud_cli",
+    "The program": "text_values run_words run_common run_captures run_desk run_packets run_reports run_drills mud_cli",
     "Other": "",
 }
 
@@ -76,10 +76,21 @@ def trusted(command=None):
             of_module = list(of_module)
             parts.append(f"\n{specs.path[module]} ({size_said(specs, of_module)})")
             parts.append("  " + ", ".join(name for _, name in of_module))
-    modules = {module for module, _ in found}
-    crates = {module.split(".")[1] for module in modules}
-    return "\n".join([*parts, f"\n{len(found)} definitions of {sum(size.values())} lines, in {len(modules)} files of "
-                              f"{len(crates)} crates; {len(types)} types of the code"])
+    return "\n".join([*parts, f"\n{size_said(specs, found)}, in {len({module for module, _ in found})} files; "
+                              f"{len(types)} types of the code"])
+
+
+def sizes(specs, keys):
+    """How many definitions these are, how many parts stand behind a 'where' of theirs, and their lines and tokens."""
+    rows = [specs.definitions[module][name] for module, name in keys]
+    parts = sum(len(texts.parts_of(of_one)) for of_one in rows)
+    return len(rows), parts, *map(sum, zip(*map(texts.size_of, rows)))
+
+
+def size_said(specs, keys):
+    definitions, parts, lines, tokens = sizes(specs, keys)
+    behind = f" with {parts} parts" if parts else ""
+    return f"{definitions} definition{'s' * (definitions > 1)}{behind}, {lines} lines, {tokens} tokens"
 
 
 def lines():
@@ -90,14 +101,3 @@ def lines():
     whole = sum(size[path] for path in size if path not in apart)
     rows = [f"{size[path]:5} {path}{'  apart' if path in apart else ''}" for path in sorted(size, key=lambda path: -size[path])]
     return "\n".join([*rows, f"{whole} lines, {shell} of them of a shell; {sum(size[path] for path in apart)} apart"])
-    return "\n".join([*parts, f"\n{size_said(specs, found)}, in {len({module for module, _ in found})} files; "
-                              f"{len(types)} types of the code"])
-def sizes(specs, keys):
-    """How many definitions these are, how many parts stand behind a 'where' of theirs, and their lines and tokens."""
-    rows = [specs.definitions[module][name] for module, name in keys]
-    parts = sum(len(texts.parts_of(of_one)) for of_one in rows)
-    return len(rows), parts, *map(sum, zip(*map(texts.size_of, rows)))
-def size_said(specs, keys):
-    definitions, parts, lines, tokens = sizes(specs, keys)
-    behind = f" with {parts} parts" if parts else ""
-    return f"{definitions} definition{'s' * (definitions > 1)}{behind}, {lines} lines, {tokens} tokens"

@@ -1,10 +1,9 @@
 //! Commands: what an operator states, a usage file that was fetched, and what was heard.
 ghost use Rattle.std.specs.Prelude.{◌≡◌, false};
-ghost use Rattle.base_rows.specs.Ledgers.{IsBlankOf};
 ghost use Rattle.mud_world.specs.Kept.{faults_of};
 ghost use Rattle.mud_world.specs.Causes.{Counts};
 ghost use Rattle.desk_model.specs.Commands.{IsAsked};
-ghost use Rattle.desk_model.specs.Sessions.{AllowedReply, is_of_keeper};
+ghost use Rattle.desk_model.specs.Sessions.{is_of_keeper};
 ghost use Rattle.mud_desk.specs.DeskState.{tables_of, session_of};
 ghost use Rattle.mud_desk.specs.Stays.{StaysKept};
 ghost use Rattle.desk_model.specs.Kept.{IsKept};
@@ -15,7 +14,6 @@ ghost use Rattle.console.specs.Origins.{said_of, HasTexts, IsWritten};
 
 use crate::body::BodyText;
 use crate::refusals::want_memory;
-use base_rows::Steps;
 use console_answers::Status;
 use console_answers::bodies::HeardTexts;
 use console_listings::{refusal_body, refusal_status};
@@ -26,8 +24,6 @@ use mud_base::Moment;
 use mud_desk::Desk;
 use mud_world::Keeper;
 use std::alloc::Global;
-use std::marker::Brand;
-use std::sync::ledger::{Blank, Ledger};
 
 /// Where a command comes from, which decides what its answer tells.
 #[derive(Drop)]
@@ -36,35 +32,6 @@ pub(crate) enum Origin {
     Asked(Action),
     /// It was heard, and these are the texts of its addresses.
     Heard(Heard, HeardTexts),
-}
-
-/// Runs a command, and counts its steps for nobody.
-fn run_counted<K: Keeper, L: Ledger>(
-    desk: &mut Desk<K>,
-    command: Command,
-    given: Moment,
-    blank: Blank,
-) -> Reply
-    requires blank { IsBlankOf L.name L.parts blank }
-    requires kept { IsKept ⟦<K as Keeper>⟧ desk.old.keeper (tables_of desk.old.state) }
-    requires asked { IsAsked command }
-    ensures answer { AllowedReply (session_of desk.old.state) given command result (session_of desk.new.state) }
-    ensures stays { StaysKept ⟦<K as Keeper>⟧ desk.old desk.new }
-    ensures cause { Counts (is_of_keeper result) (faults_of ⟦<K as Keeper>⟧ desk.old.keeper) (faults_of ⟦<K as Keeper>⟧ desk.new.keeper) }
-{
-    let mut steps = Steps::<L>::new(blank);
-    desk.command(command, given, &mut steps)
-}
-
-/// Runs a command.
-fn run<K: Keeper>(desk: &mut Desk<K>, command: Command, given: Moment) -> Reply
-    requires kept { IsKept ⟦<K as Keeper>⟧ desk.old.keeper (tables_of desk.old.state) }
-    requires asked { IsAsked command }
-    ensures answer { AllowedReply (session_of desk.old.state) given command result (session_of desk.new.state) }
-    ensures stays { StaysKept ⟦<K as Keeper>⟧ desk.old desk.new }
-    ensures cause { Counts (is_of_keeper result) (faults_of ⟦<K as Keeper>⟧ desk.old.keeper) (faults_of ⟦<K as Keeper>⟧ desk.new.keeper) }
-{
-    run_counted::<K, Brand>(desk, command, given, Blank::new(1))
 }
 
 /// Writes what is told of a command that was asked for and carried out.
@@ -143,6 +110,6 @@ pub(crate) fn answer_command<K: Keeper>(
     ensures stays { StaysKept ⟦<K as Keeper>⟧ desk.old desk.new }
     ensures cause { Counts (is_unavailable result) (faults_of ⟦<K as Keeper>⟧ desk.old.keeper) (faults_of ⟦<K as Keeper>⟧ desk.new.keeper) }
 {
-    let answered = run(desk, command, given);
+    let answered = desk.execute(command, given);
     write_reply(alloc, body, &origin, answered)
 }

@@ -1,19 +1,15 @@
 //! Calls of a desk as they are seen in its session.
 ghost use Rattle.std.specs.Prelude.{◌≡◌, ◌<◌, max};
-ghost use Rattle.base_rows.specs.Ledgers.{IsBlankOf};
 ghost use Rattle.mud_world.specs.Kept.{faults_of};
 ghost use Rattle.desk_model.specs.Sessions.{AllowedVerdict, raised};
 ghost use Rattle.mud_desk.specs.DeskState.{tables_of, session_of};
 ghost use Rattle.mud_desk.specs.Stays.{StaysKept};
 ghost use Rattle.desk_model.specs.Kept.{IsKept};
 
-use base_rows::Steps;
 use mud_base::{Memory, Moment};
 use mud_desk::Desk;
 use mud_world::Keeper;
 use packet_judge::Verdict;
-use std::marker::Brand;
-use std::sync::ledger::{Blank, Ledger};
 
 /// The later of two moments.
 pub(crate) fn later(a: Moment, b: Moment) -> Moment
@@ -33,23 +29,6 @@ pub(crate) fn raise<K: Keeper>(desk: &mut Desk<K>, given: Moment)
     let _moment = desk.raise(given);
 }
 
-/// Judges a frame, and counts the steps for nobody.
-fn judge_counted<K: Keeper, L: Ledger>(
-    desk: &mut Desk<K>,
-    frame: &[u8],
-    given: Moment,
-    blank: Blank,
-) -> Result<Verdict, Memory>
-    requires blank { IsBlankOf L.name L.parts blank }
-    requires kept { IsKept ⟦<K as Keeper>⟧ desk.old.keeper (tables_of desk.old.state) }
-    ensures judged { AllowedVerdict (session_of desk.old.state) given frame.now result (session_of desk.new.state) }
-    ensures stays { StaysKept ⟦<K as Keeper>⟧ desk.old desk.new }
-    ensures steady { faults_of ⟦<K as Keeper>⟧ desk.new.keeper ≡ faults_of ⟦<K as Keeper>⟧ desk.old.keeper }
-{
-    let mut steps = Steps::<L>::new(blank);
-    desk.judge(frame, given, &mut steps)
-}
-
 /// Judges a frame.
 pub(crate) fn judge<K: Keeper>(
     desk: &mut Desk<K>,
@@ -61,5 +40,8 @@ pub(crate) fn judge<K: Keeper>(
     ensures stays { StaysKept ⟦<K as Keeper>⟧ desk.old desk.new }
     ensures steady { faults_of ⟦<K as Keeper>⟧ desk.new.keeper ≡ faults_of ⟦<K as Keeper>⟧ desk.old.keeper }
 {
-    judge_counted::<K, Brand>(desk, frame, given, Blank::new(1))
+    match desk.judge_frame(frame, given) {
+        Ok(judged) => Ok(judged.verdict),
+        Err(Memory) => Err(Memory),
+    }
 }

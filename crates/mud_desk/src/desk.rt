@@ -1,5 +1,6 @@
 //! The desk, and the keeper that it keeps its lists in.
-ghost use Rattle.std.specs.Prelude.{◌≡◌, ◌⊎◌, ℕ, ◌+◌, ◌-◌, ◌^◌, ◌<◌, ◌≤◌, max, [], List, Ok, IfOk, IfErr, length};
+ghost use Rattle.std.specs.Prelude.{◌≡◌, ◌⊎◌, ℕ, ◌+◌, ◌-◌, ◌^◌, ◌<◌, ◌≤◌, max, List, Ok, Err, IfOk, IfErr, length};
+ghost use Rattle.base_rows.specs.Ledgers.{IsBlankOf};
 ghost use Rattle.mud_world.specs.declared.item.Item.{Item};
 ghost use Rattle.mud_world.specs.Kept.{faults_of, Tells, kept_items, Rests};
 ghost use Rattle.mud_world.specs.Causes.{Counts};
@@ -26,7 +27,7 @@ ghost use Rattle.mud_desk.specs.Answers.{is_fault_of_keeper, StaysUnlessDone, Is
 use crate::Findings;
 use crate::items::{Loaded, OpenFault, open_items};
 use crate::keeping::keep_batch;
-use crate::state::{State, later};
+use crate::state::{JudgedFrame, State, later};
 use acl_rows::RuleView;
 use base_rows::Steps;
 use desk_model::types::command_fits;
@@ -173,6 +174,35 @@ impl<K: Keeper> Desk<K> {
         Reply::Done(outcome)
     }
 
+    /// [`Desk::command`], whose steps are counted on this blank.
+    fn execute_on<L: Ledger>(&mut self, command: Command, now: Moment, blank: Blank) -> Reply
+        requires blank { IsBlankOf L.name L.parts blank }
+        requires kept { IsKept ⟦<K as Keeper>⟧ self.old.keeper (tables_of self.old.state) }
+        requires asked { IsAsked command }
+        ensures answer { AllowedReply (session_of self.old.state) now command result (session_of self.new.state) }
+        ensures stays { StaysKept ⟦<K as Keeper>⟧ self.old self.new }
+        ensures crash { (list : List Item) → K.left self.new.keeper list → K.left self.old.keeper list
+            ⊎ AreItemsAfter (command_step (tables_of self.old.state) (max self.old.state.moment now) command) list }
+        ensures compiled { StaysUnlessDone result self.old.state.books.compiled self.new.state.books.compiled }
+        ensures cause { Counts (is_of_keeper result) (faults_of ⟦<K as Keeper>⟧ self.old.keeper) (faults_of ⟦<K as Keeper>⟧ self.new.keeper) }
+    {
+        self.command(command, now, &mut Steps::<L>::new(blank))
+    }
+
+    /// A command: [`Desk::command`], whose steps nobody asks for.
+    pub fn execute(&mut self, command: Command, now: Moment) -> Reply
+        requires kept { IsKept ⟦<K as Keeper>⟧ self.old.keeper (tables_of self.old.state) }
+        requires asked { IsAsked command }
+        ensures answer { AllowedReply (session_of self.old.state) now command result (session_of self.new.state) }
+        ensures stays { StaysKept ⟦<K as Keeper>⟧ self.old self.new }
+        ensures crash { (list : List Item) → K.left self.new.keeper list → K.left self.old.keeper list
+            ⊎ AreItemsAfter (command_step (tables_of self.old.state) (max self.old.state.moment now) command) list }
+        ensures compiled { StaysUnlessDone result self.old.state.books.compiled self.new.state.books.compiled }
+        ensures cause { Counts (is_of_keeper result) (faults_of ⟦<K as Keeper>⟧ self.old.keeper) (faults_of ⟦<K as Keeper>⟧ self.new.keeper) }
+    {
+        self.execute_on::<Brand>(command, now, Blank::new(1))
+    }
+
     /// The verdict on a frame, at the later of the session's moment and this one, which is made the
     /// moment of the session. A TCP packet of a Thing that is forwarded counts for the connections
     /// from then on, once. [`Memory`] comes only for such a packet, and leaves all as it was.
@@ -194,7 +224,27 @@ impl<K: Keeper> Desk<K> {
         ensures most { (b : ℕ) → length self.old.state.books.compiled.rows < 2 ^ b
             → steps.new ≤ steps.old + steps_on (ruling_steps self.old.state.books.compiled b) (tables_of self.old.state).tables.things (frame_of frame.now) }
     {
-        self.state.judge(frame, stamp, steps)
+        match self.state.judge(frame, stamp, steps) {
+            Ok(judged) => Ok(judged.verdict),
+            Err(Memory) => Err(Memory),
+        }
+    }
+
+    /// The verdict on a frame, and what it was read as: [`Desk::judge`], whose steps nobody asks for.
+    pub fn judge_frame<'a>(
+        &mut self,
+        frame: &'a [u8],
+        stamp: Moment,
+    ) -> Result<JudgedFrame<'a>, Memory>
+        requires kept { IsKept ⟦<K as Keeper>⟧ self.old.keeper (tables_of self.old.state) }
+        ensures stays { StaysKept ⟦<K as Keeper>⟧ self.old self.new }
+        ensures judged { IfOk result (λ judged. AllowedVerdict (session_of self.old.state) stamp frame.now (Ok judged.verdict) (session_of self.new.state)) }
+        ensures wanting { IfErr result (λ memory. AllowedVerdict (session_of self.old.state) stamp frame.now (Err memory) (session_of self.new.state)) }
+        ensures read { IfOk result (λ judged. judged.frame ≡ frame_of frame.now) }
+        ensures books { self.new.state.books ≡ self.old.state.books }
+        ensures keeper { self.new.keeper ≡ self.old.keeper }
+    {
+        self.state.judge_frame(frame, stamp)
     }
 
     /// What decides a frame: the verdict that [`Desk::judge`] would give, and the Things, rulings and

@@ -17,4 +17,4 @@ pub use desk_model::{Command, Outcome, Refusal, Reply};
 pub use findings::{Findings, RuledThing};
 pub use items::{Loaded, OpenFault};
 pub use packet_judge::Verdict;
-pub use state::State;
+pub use state::{JudgedFrame, State};

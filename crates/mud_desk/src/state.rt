@@ -1,11 +1,9 @@
 //! All that the desk holds beside its keeper.
-ghost use Rattle.std.specs.Prelude.{◌≡◌, ℕ, ◌+◌, ◌-◌, ◌^◌, ◌<◌, ◌≤◌, max, false, List, Err, IsTrue, IfOk, IfErr, OnOk, IsOkAnd, length};
-ghost use Rattle.std.specs.Prelude.{unwrap_or};
+ghost use Rattle.std.specs.Prelude.{◌≡◌, ℕ, ◌+◌, ◌-◌, ◌^◌, ◌<◌, ◌≤◌, max, false, Ok, Err, IfOk, IfErr, OnOk, IsOkAnd, length};
 ghost use Rattle.base_rows.specs.Ledgers.{IsBlankOf};
 ghost use Rattle.acl_changes.specs.Patch.{rows_apart};
 ghost use Rattle.acl_compile.specs.Plans.{IsKept};
 ghost use Rattle.table_model.specs.Expiries.{for_ever};
-ghost use Rattle.table_model.specs.Things.{thing_at};
 ghost use Rattle.frame_view.specs.Frame.{frame_of};
 ghost use Rattle.packet_judge.specs.Verdicts.{steps_on};
 ghost use Rattle.desk_model.specs.DeskTables.{IsSound};
@@ -13,7 +11,6 @@ ghost use Rattle.desk_model.specs.Refusals.{is_want_of_memory};
 ghost use Rattle.desk_model.specs.Commands.{IsAsked, command_step};
 ghost use Rattle.desk_model.specs.Sessions.{AllowedVerdict, opened, verdict_in};
 ghost use Rattle.desk_model.specs.Verdicts.{policy_at};
-ghost use Rattle.desk_books.specs.CompiledDesk.{IsCompiledOf};
 ghost use Rattle.mud_desk.specs.Items.Loaded.{loaded_desk};
 ghost use Rattle.mud_desk.specs.RuleInputs.{AreRuleInputsOf, rule_inputs, rows_read, ruling_steps};
 ghost use Rattle.mud_desk.specs.Findings.{AreFindingsOn};
@@ -29,11 +26,11 @@ use base_rows::Steps;
 use desk_books::{DeskBooks, DeskChange};
 use desk_model::{Command, Refusal};
 use flow_table::FlowTable;
-use frame_view::view;
+use frame_view::{Frame, view};
 use mud_base::{Memory, Moment};
 use packet_judge::Verdict;
 use std::alloc::Global;
-use std::marker::Model;
+use std::marker::{Brand, Model};
 use std::sync::ledger::{Blank, Ledger};
 
 /// The books with what is compiled of them, the connections, and the moment of the session. Contracts
@@ -63,6 +60,13 @@ impl Model for State {
     ghost view = { λ s. record { books = s.books; flows = s.flows; moment = s.moment } };
 
     ghost invariant = { λ s. IsTimely s.flows s.moment };
+}
+
+/// A frame that was judged: the verdict on it, and what it was read as.
+#[derive(Drop)]
+pub struct JudgedFrame<'a> {
+    pub verdict: Verdict,
+    pub frame: Frame<'a>,
 }
 
 /// The later of two moments.
@@ -96,7 +100,7 @@ impl State {
     }
 
     /// The moment of the session.
-    pub(crate) fn moment(&self) -> Moment
+    pub fn moment(&self) -> Moment
         ensures { result ≡ self.now.moment }
     {
         self.moment
@@ -175,17 +179,20 @@ impl State {
     }
 
     /// The verdict on a frame, at the later of the session's moment and this one, which is made the
-    /// moment of the session. A TCP packet with a ruling that is forwarded is noted for the
-    /// connections, once. [`Memory`] comes only for such a packet, and leaves all as it was. The steps
-    /// are those of the rulings: one for each endpoint of a packet that is a Thing and isn't held.
+    /// moment of the session, and what the frame was read as. A TCP packet with a ruling that is
+    /// forwarded is noted for the connections, once. [`Memory`] comes only for such a packet, and leaves
+    /// all as it was. The steps are those of the rulings: one for each endpoint of a packet that is a
+    /// Thing and isn't held.
     #[tactic(auto, unfolding(crate::specs::DeskState::tables_of))]
-    pub fn judge<L: Ledger>(
+    pub(crate) fn judge<'a, L: Ledger>(
         &mut self,
-        frame: &[u8],
+        frame: &'a [u8],
         stamp: Moment,
         steps: &mut Steps<L>,
-    ) -> Result<Verdict, Memory>
-        ensures judged { AllowedVerdict (session_of self.old) stamp frame.now result (session_of self.new) }
+    ) -> Result<JudgedFrame<'a>, Memory>
+        ensures judged { IfOk result (λ judged. AllowedVerdict (session_of self.old) stamp frame.now (Ok judged.verdict) (session_of self.new)) }
+        ensures wanting { IfErr result (λ memory. AllowedVerdict (session_of self.old) stamp frame.now (Err memory) (session_of self.new)) }
+        ensures read { IfOk result (λ judged. judged.frame ≡ frame_of frame.now) }
         ensures books { self.new.books ≡ self.old.books }
         ensures least { steps.old + steps_on (rows_read self.old.books.compiled) (tables_of self.old).tables.things (frame_of frame.now) ≤ steps.new }
         ensures most { (b : ℕ) → length self.old.books.compiled.rows < 2 ^ b
@@ -196,7 +203,40 @@ impl State {
         let verdict = packet_judge::judge(&view, &self.rules_at(now), steps);
         note(&mut self.flows, &view, &verdict, now)?;
         self.moment = now;
-        Ok(verdict)
+        Ok(JudgedFrame {
+            verdict,
+            frame: view,
+        })
+    }
+
+    /// [`State::judge`], whose steps are counted on this blank.
+    fn judge_on<'a, L: Ledger>(
+        &mut self,
+        frame: &'a [u8],
+        stamp: Moment,
+        blank: Blank,
+    ) -> Result<JudgedFrame<'a>, Memory>
+        requires blank { IsBlankOf L.name L.parts blank }
+        ensures judged { IfOk result (λ judged. AllowedVerdict (session_of self.old) stamp frame.now (Ok judged.verdict) (session_of self.new)) }
+        ensures wanting { IfErr result (λ memory. AllowedVerdict (session_of self.old) stamp frame.now (Err memory) (session_of self.new)) }
+        ensures read { IfOk result (λ judged. judged.frame ≡ frame_of frame.now) }
+        ensures books { self.new.books ≡ self.old.books }
+    {
+        self.judge(frame, stamp, &mut Steps::<L>::new(blank))
+    }
+
+    /// The verdict on a frame, and what it was read as: [`State::judge`], whose steps nobody asks for.
+    pub fn judge_frame<'a>(
+        &mut self,
+        frame: &'a [u8],
+        stamp: Moment,
+    ) -> Result<JudgedFrame<'a>, Memory>
+        ensures judged { IfOk result (λ judged. AllowedVerdict (session_of self.old) stamp frame.now (Ok judged.verdict) (session_of self.new)) }
+        ensures wanting { IfErr result (λ memory. AllowedVerdict (session_of self.old) stamp frame.now (Err memory) (session_of self.new)) }
+        ensures read { IfOk result (λ judged. judged.frame ≡ frame_of frame.now) }
+        ensures books { self.new.books ≡ self.old.books }
+    {
+        self.judge_on::<Brand>(frame, stamp, Blank::new(1))
     }
 
     /// What decides a frame at the later of the session's moment and this one: the verdict that

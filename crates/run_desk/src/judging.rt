@@ -1,6 +1,6 @@
 //! The verdict on each packet of a capture.
 ghost use Rattle.std.specs.Prelude.{◌≡◌, ◌≢◌, ◌++◌, IfOk, OnOk, OnErr, [], ◌∷◌};
-ghost use Rattle.base_rows.specs.Ledgers.{IsBlankOf};
+ghost use Rattle.frame_view.specs.Frame.{frame_of};
 ghost use Rattle.pcap_read.specs.Captured.{packet_of};
 ghost use Rattle.run_captures.specs.Capture.{WritesTaken, output_of_capture};
 ghost use Rattle.run_captures.specs.Fold.{no_ending};
@@ -12,17 +12,14 @@ ghost use Rattle.desk_model.specs.Kept.{IsKept};
 ghost use Rattle.mud_desk.specs.DeskState.{tables_of, session_of};
 ghost use Rattle.run_desk.specs.Judged.{judged_line, judged_packet, judged_step};
 
-use base_rows::Steps;
 use desk_model::texts::append_verdict;
 use mud_base::{Bytes, Memory, Moment};
-use mud_desk::{Desk, State, Verdict};
+use mud_desk::{Desk, JudgedFrame, State, Verdict};
 use mud_world::{Door, Keeper};
 use pcap_read::Captured;
 use run_captures::{PacketLines, write_capture};
 use run_common::Status;
 use std::alloc::Global;
-use std::marker::Brand;
-use std::sync::ledger::{Blank, Ledger};
 use text_values::append_two;
 
 /// The seconds of a packet as a moment. No number of 32 bits is after the last moment.
@@ -32,20 +29,15 @@ pub fn moment_of(packet: &Captured<'_>) -> Moment
     Moment::at_most_last(u64::from(packet.seconds))
 }
 
-/// The verdict on a packet, at its seconds or at the session's moment where that is later. Without
-/// memory the session stays as it was.
-pub fn judge_packet<L: Ledger>(
-    state: &mut State,
-    packet: &Captured<'_>,
-    blank: Blank,
-) -> Result<Verdict, Memory>
-    requires blank { IsBlankOf L.name L.parts blank }
-    ensures verdict { IfOk result (λ verdict. verdict ≡ (judged_packet (session_of state.old) (packet_of packet.now)).verdict) }
+/// The verdict on a packet, at its seconds or at the session's moment where that is later, and what
+/// it was read as. Without memory the session stays as it was.
+pub fn judge_packet<'a>(state: &mut State, packet: &Captured<'a>) -> Result<JudgedFrame<'a>, Memory>
+    ensures frame { IfOk result (λ judged. judged.frame ≡ frame_of packet.now.octets.now) }
+    ensures verdict { IfOk result (λ judged. judged.verdict ≡ (judged_packet (session_of state.old) (packet_of packet.now)).verdict) }
     ensures next { OnOk result (session_of state.new ≡ (judged_packet (session_of state.old) (packet_of packet.now)).session) }
     ensures err { OnErr result (session_of state.new ≡ session_of state.old) }
 {
-    let mut steps = Steps::<L>::new(blank);
-    state.judge(packet.octets, moment_of(packet), &mut steps)
+    state.judge_frame(packet.octets, moment_of(packet))
 }
 
 /// Adds the line of a packet: its number, its seconds, and the verdict on it.
@@ -88,8 +80,8 @@ impl PacketLines for JudgedLines {
         lines: &mut Bytes,
         packet: &Captured<'_>,
     ) -> Result<(), Memory> {
-        let verdict = judge_packet::<Brand>(&mut self.state, packet, Blank::new(1))?;
-        append_judged(lines, packet, &verdict)
+        let judged = judge_packet(&mut self.state, packet)?;
+        append_judged(lines, packet, &judged.verdict)
     }
 
     fn append_last(&self, _alloc: Global, _lines: &mut Bytes) -> Result<(), Memory> {

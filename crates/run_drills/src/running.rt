@@ -1,14 +1,9 @@
 //! The commands of a drill, one after the other.
 ghost use Rattle.std.specs.Prelude.{◌≡◌, [], ◌∷◌, IfErr, OnOk};
-ghost use Rattle.base_rows.specs.Ledgers.{IsBlankOf};
-ghost use Rattle.mud_world.specs.Kept.{faults_of};
-ghost use Rattle.mud_world.specs.Causes.{Counts};
 ghost use Rattle.desk_model.specs.Commands.{IsAsked};
-ghost use Rattle.desk_model.specs.Sessions.{AllowedReply, is_of_keeper};
 ghost use Rattle.desk_model.specs.Kept.{IsKept};
-ghost use Rattle.mud_desk.specs.DeskState.{session_of, tables_of};
-ghost use Rattle.mud_desk.specs.Stays.{StaysKept};
-ghost use Rattle.run_drills.specs.Commands.{command_moment, commands_of, drill_commands, round_commands};
+ghost use Rattle.mud_desk.specs.DeskState.{tables_of};
+ghost use Rattle.run_drills.specs.Commands.{commands_of, drill_commands, round_commands};
 ghost use Rattle.run_drills.specs.Runs.{RanAll, RanPart};
 ghost use Rattle.run_drills.specs.Stops.{stop_of};
 
@@ -18,26 +13,10 @@ use crate::commands::{
 use crate::network::{file_count, thing_count};
 use crate::stop::Stop;
 use crate::usage::usage_text;
-use base_rows::Steps;
 use desk_model::{Command, Reply};
 use mud_desk::Desk;
 use mud_world::Keeper;
 use std::alloc::Global;
-use std::marker::Brand;
-use std::sync::ledger::{Blank, Ledger};
-
-/// What a command answers.
-fn reply_to<K: Keeper, L: Ledger>(desk: &mut Desk<K>, command: Command, blank: Blank) -> Reply
-    requires blank { IsBlankOf L.name L.parts blank }
-    requires kept { IsKept ⟦<K as Keeper>⟧ desk.old.keeper (tables_of desk.old.state) }
-    requires asked { IsAsked command }
-    ensures answer { AllowedReply (session_of desk.old.state) command_moment command result (session_of desk.new.state) }
-    ensures stays { StaysKept ⟦<K as Keeper>⟧ desk.old desk.new }
-    ensures cause { Counts (is_of_keeper result) (faults_of ⟦<K as Keeper>⟧ desk.old.keeper) (faults_of ⟦<K as Keeper>⟧ desk.new.keeper) }
-{
-    let mut steps = Steps::<L>::new(blank);
-    desk.command(command, command_moment(), &mut steps)
-}
 
 /// What a reply means for the drill, which goes on where the command is refused.
 fn unless_stopped(reply: Reply) -> Result<(), Stop>
@@ -57,7 +36,7 @@ fn run<K: Keeper>(desk: &mut Desk<K>, command: Command) -> Result<(), Stop>
     ensures all { OnOk result (RanAll ⟦<K as Keeper>⟧ (command ∷ []) desk.old desk.new) }
     ensures part { IfErr result (λ stop. RanPart ⟦<K as Keeper>⟧ stop (command ∷ []) desk.old desk.new) }
 {
-    unless_stopped(reply_to::<K, Brand>(desk, command, Blank::new(1)))
+    unless_stopped(desk.execute(command, command_moment()))
 }
 
 /// The usage file of a Thing's model is fetched, and approved.

@@ -2,6 +2,7 @@
 use Rattle.std.proofs.Common.{◌≡◌, ℕ, Bool, List, [], ◌∷◌, ◌++◌, length, take, refl, subst, ap, ◌∙◌, arith, append_assoc}
 use Rattle.std.specs.Prelude.{option_map}
 use Rattle.table_model.specs.declared.bind.ClassRow.{ClassRow}
+use Rattle.frame_view.specs.Frame.{frame_of}
 use Rattle.read_buffer.specs.Packets.{Packet}
 use Rattle.packet_judge.specs.declared.verdict.Verdict.{Verdict}
 use Rattle.desk_model.specs.declared.reply.Reply.{Reply}
@@ -16,7 +17,7 @@ use Rattle.run_packets.specs.Snoop.Packets.{session_behind, IsJudgedIn, GoesOn, 
 use Rattle.desk_model.proofs.Parts.{judged}
 
 module _ (s : Session) (packet : Packet) (verdict : Verdict) (middle : DeskState) (after : Session) (verdict_is : verdict ≡ (judged_packet s packet).verdict) (in_middle : session_of middle ≡ session_behind s packet)
-    (heard : Heard) (heard_is : heard ≡ option_map answers_of (heard_in (tables_of middle).tables.classes packet.octets verdict)) where
+    (heard : Heard) (heard_is : heard ≡ option_map answers_of (heard_in (tables_of middle).tables.classes (frame_of packet.octets) verdict)) where
   classes_are : (tables_of middle).tables.classes ≡ s.desk.tables.classes
   unfolding session_of frame_in
   classes_are = ap (λ (t : Session). t.desk.tables.classes) in_middle
@@ -31,7 +32,7 @@ module _ (s : Session) (packet : Packet) (verdict : Verdict) (middle : DeskState
   judged_in : (replies : List Reply) → IsJudgedIn s (entry_with replies)
   judged_in replies = record {
     verdict = verdict_is;
-    heard = heard_is ∙ ap (λ (classes : List ClassRow). option_map answers_of (heard_in classes packet.octets verdict)) classes_are;
+    heard = heard_is ∙ ap (λ (classes : List ClassRow). option_map answers_of (heard_in classes (frame_of packet.octets) verdict)) classes_are;
   }
 
   pub goes_on : (now : ℕ) (old mid new : List ℕ) (f g : ℕ) (failed : Bool) → now ≡ middle.moment → mid ≡ old ++ judged_line packet verdict

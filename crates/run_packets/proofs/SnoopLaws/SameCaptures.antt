@@ -15,6 +15,7 @@ use Rattle.run_desk.specs.Judged.{judged_packet}
 use Rattle.run_desk.proofs.SameCaptures.{line_alike}
 use Rattle.dns_snoop.specs.Messages.{answers_of}
 use Rattle.run_packets.specs.Snoop.Entries.{Entry, packets_of, calls_of, entry_lines, heard_lines, lines_of, failures, keeper_count, status_with}
+use Rattle.frame_view.specs.Frame.{frame_of}
 use Rattle.run_packets.specs.Snoop.Learning.{heard_in}
 use Rattle.run_packets.specs.Snoop.Packets.{SnoopsPacket, Snoops}
 use Rattle.run_packets.specs.Snoop.Runs.{scene, output_of_entries, SnoopsAll}
@@ -41,7 +42,7 @@ may_alike before after entry q alike may =
     record {
       judged = record {
         verdict = may.judged.verdict ∙ ap (λ (j : Judged). j.verdict) same;
-        heard = may.judged.heard ∙ ap (λ (l : List ℕ). option_map answers_of (heard_in before.desk.tables.classes l entry.verdict)) alike.octets;
+        heard = may.judged.heard ∙ ap (λ (l : List ℕ). option_map answers_of (heard_in before.desk.tables.classes (frame_of l) entry.verdict)) alike.octets;
       };
       run = subst (λ (j : Judged). Runs j.session (calls_of j.session.moment entry.heard) entry.replies after) same may.run;
       told = may.told;

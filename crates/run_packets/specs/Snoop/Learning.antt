@@ -4,9 +4,7 @@ use Rattle.mud_base.specs.declared.packet.Transport.{Transport}
 use Rattle.mud_base.specs.declared.packet.Transport.TheVariants as packet
 use Rattle.frame_view.specs.declared.views.Frame.{Frame}
 use Rattle.frame_view.specs.declared.views.Frame.TheVariants as frame
-use Rattle.frame_view.specs.Frame.{frame_of}
 use Rattle.frame_view.specs.Carried.{payload_of}
-use Rattle.table_model.specs.declared.bind.Class.{Class}
 use Rattle.table_model.specs.declared.bind.Class.TheVariants.{Uri}
 use Rattle.table_model.specs.declared.bind.ClassRow.{ClassRow}
 use Rattle.table_model.specs.Tables.{is_bound}
@@ -30,8 +28,8 @@ is_let_through (Governed source destination) = forwarded (Governed source destin
 
 -- What names are learnt from: the payload of a packet that has a ruling, is forwarded, and came by UDP from port 53 of an
 -- address of the class of DNS servers (RFC 8520, 4.6).
-unfoldable pub heard_in : List ClassRow → List ℕ → Verdict → Option (List ℕ)
-heard_in classes octets verdict = if is_let_through verdict then payload_if classes (frame_of octets) else None
+unfoldable pub heard_in : List ClassRow → Frame → Verdict → Option (List ℕ)
+heard_in classes read verdict = if is_let_through verdict then payload_if classes read else None
   where
     -- what the frame carries by UDP, where it came so from an address of the class of DNS servers
     payload_if : List ClassRow → Frame → Option (List ℕ)

@@ -1,6 +1,7 @@
 -- What packets lead to, one after the other, in a session.
 use Rattle.std.specs.Prelude.{◌≡◌, ℕ, nat_lt, Bool, List, [], ◌∷◌, ◌++◌, length, take, option_map}
 use Rattle.mud_world.specs.Causes.{RoseBy}
+use Rattle.frame_view.specs.Frame.{frame_of}
 use Rattle.read_buffer.specs.Packets.{Packet}
 use Rattle.desk_model.specs.Sessions.{Session, Runs}
 use Rattle.run_desk.specs.Judged.{judged_packet}
@@ -15,7 +16,7 @@ session_behind session packet = (judged_packet session packet).session
 -- The verdict is that of the session, and what is heard is heard by the classes of its desk.
 pub record IsJudgedIn (session : Session) (entry : Entry) : Type 0 where
   pub verdict : entry.verdict ≡ (judged_packet session entry.packet).verdict
-  pub heard : entry.heard ≡ option_map answers_of (heard_in session.desk.tables.classes entry.packet.octets entry.verdict)
+  pub heard : entry.heard ≡ option_map answers_of (heard_in session.desk.tables.classes (frame_of entry.packet.octets) entry.verdict)
 
 -- The packet is judged, and then each address is observed at the moment of the session behind it.
 pub record SnoopsPacket (before : Session) (entry : Entry) (after : Session) : Type 0 where

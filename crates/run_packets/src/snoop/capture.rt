@@ -1,15 +1,12 @@
 //! A capture, packet by packet.
-ghost use Rattle.std.specs.Prelude.{◌≡◌, ◌≢◌, ◌==◌, [], false, true, ◌∷◌};
-ghost use Rattle.base_rows.specs.Ledgers.{IsBlankOf};
+ghost use Rattle.std.specs.Prelude.{◌≡◌, ◌≢◌, [], false, true, ◌∷◌};
 ghost use Rattle.mud_world.specs.Kept.{faults_of};
 ghost use Rattle.mud_world.specs.Causes.{Rose};
 ghost use Rattle.mud_world.specs.Door.{DoorState};
 ghost use Rattle.read_buffer.specs.Packets.{Packet};
 ghost use Rattle.run_captures.specs.Reading.{is_broken};
-ghost use Rattle.run_captures.specs.Capture.{output_behind};
-ghost use Rattle.run_captures.specs.Runs.{HasAll, HasDone};
+ghost use Rattle.run_captures.specs.Runs.{HasDone};
 ghost use Rattle.run_common.specs.Ends.{IsSteady, IsStopped};
-ghost use Rattle.run_common.specs.Output.{WritesOutput, WritesPart};
 ghost use Rattle.run_common.specs.Status.{Is, IsNot, IsOneOf, status_number};
 ghost use Rattle.run_common.specs.declared.status.Status.TheVariants.{Done, Refused, DoorFailed, NoMemory, KeeperFailed};
 ghost use Rattle.desk_model.specs.Kept.{IsKept};
@@ -19,15 +16,12 @@ ghost use Rattle.run_packets.specs.Snoop.Runs.{scene, SnoopsAll, SnoopsPart, Sno
 
 use crate::snoop::observing::either;
 use crate::snoop::packet::snoop_packet;
-use base_rows::Steps;
 use mud_base::{Bytes, Memory};
 use mud_desk::Desk;
 use mud_world::{Door, Keeper, ReadFault};
 use run_captures::{CaptureFault, CaptureReader, Way, end_capture, go_on};
 use run_common::Status;
 use std::alloc::Global;
-use std::marker::Brand;
-use std::sync::ledger::{Blank, Ledger};
 
 /// The status, or 7 in place of 0 and 3 where the keeper failed.
 fn with_failure(status: Status, failed: bool) -> Status
@@ -42,13 +36,12 @@ fn with_failure(status: Status, failed: bool) -> Status
 }
 
 /// Judges the packets that are to come, and learns from each.
-fn snoop_packets<K: Keeper, L: Ledger, D: Door>(
+fn snoop_packets<K: Keeper, D: Door>(
     alloc: Global,
     desk: &mut Desk<K>,
     door: &mut D,
     reader: &mut CaptureReader,
     lines: &mut Bytes,
-    steps: &mut Steps<L>,
 ) -> Status
     requires going { is_broken reader.old ≡ false }
     requires kept { IsKept ⟦<K as Keeper>⟧ desk.old.keeper (tables_of desk.old.state) }
@@ -83,48 +76,11 @@ fn snoop_packets<K: Keeper, L: Ledger, D: Door>(
             }
             Way::Failed => return Status::DoorFailed,
         }
-        match snoop_packet(alloc, desk, lines, &reader.packet(), steps) {
+        match snoop_packet(alloc, desk, lines, &reader.packet()) {
             Ok(one) => failed = either(failed, one),
             Err(Memory) => return Status::NoMemory,
         }
     }
-}
-
-/// Judges the packets that are to come, and learns from each. The steps are counted on this blank.
-fn snoop_counted<K: Keeper, L: Ledger, D: Door>(
-    alloc: Global,
-    desk: &mut Desk<K>,
-    door: &mut D,
-    reader: &mut CaptureReader,
-    blank: Blank,
-) -> Status
-    requires going { is_broken reader.old ≡ false }
-    requires blank { IsBlankOf L.name L.parts blank }
-    requires kept { IsKept ⟦<K as Keeper>⟧ desk.old.keeper (tables_of desk.old.state) }
-    ensures statuses { IsOneOf (Done ∷ Refused ∷ DoorFailed ∷ NoMemory ∷ KeeperFailed ∷ []) (status_number result) }
-    ensures fault { Is DoorFailed (status_number result) → IsStopped (D.view door.old) (D.view door.new) }
-    ensures steady { IsNot DoorFailed (status_number result) → IsSteady (D.view door.old) (D.view door.new) }
-    ensures stays { StaysKept ⟦<K as Keeper>⟧ desk.old desk.new }
-    ensures done { (first : DoorState) → D.tells → HasDone [] [] reader.old first (D.view door.old).state []
-        → IsOneOf (Done ∷ Refused ∷ KeeperFailed ∷ []) (status_number result)
-        → SnoopsAll (scene (session_of desk.old.state) first (faults_of ⟦<K as Keeper>⟧ desk.old.keeper))
-        (scene (session_of desk.new.state) (D.view door.new).state (faults_of ⟦<K as Keeper>⟧ desk.new.keeper)) (status_number result) }
-    ensures part { (first : DoorState) → D.tells → HasDone [] [] reader.old first (D.view door.old).state []
-        → IsOneOf (DoorFailed ∷ NoMemory ∷ []) (status_number result)
-        → SnoopsPart (scene (session_of desk.old.state) first (faults_of ⟦<K as Keeper>⟧ desk.old.keeper))
-        (scene (session_of desk.new.state) (D.view door.new).state (faults_of ⟦<K as Keeper>⟧ desk.new.keeper)) }
-    ensures taken { (first : DoorState) → D.tells → HasDone [] [] reader.old first (D.view door.old).state []
-        → (D.view door.new).reads ≢ (D.view door.old).reads
-        → SnoopsTaken (scene (session_of desk.old.state) first (faults_of ⟦<K as Keeper>⟧ desk.old.keeper))
-        (scene (session_of desk.new.state) (D.view door.new).state (faults_of ⟦<K as Keeper>⟧ desk.new.keeper)) }
-    ensures keeper { Is KeeperFailed (status_number result) → Rose (faults_of ⟦<K as Keeper>⟧ desk.old.keeper) (faults_of ⟦<K as Keeper>⟧ desk.new.keeper) }
-    ensures keeper_steady { IsOneOf (Done ∷ Refused ∷ []) (status_number result) →
-        faults_of ⟦<K as Keeper>⟧ desk.new.keeper ≡ faults_of ⟦<K as Keeper>⟧ desk.old.keeper }
-    ensures turns { (D.view door.new).turns ≡ (D.view door.old).turns }
-{
-    let mut lines = Bytes::empty(alloc);
-    let mut steps = Steps::<L>::new(blank);
-    snoop_packets(alloc, desk, door, reader, &mut lines, &mut steps)
 }
 
 /// Reads a capture, and writes for each packet the verdict on it, in the session that the desk is in,
@@ -169,5 +125,6 @@ pub(crate) fn snoop_capture<K: Keeper, D: Door>(
         Err(ReadFault::Failed) => return Status::DoorFailed,
         Err(ReadFault::Memory) => return Status::NoMemory,
     };
-    snoop_counted::<K, Brand, D>(alloc, desk, door, &mut reader, Blank::new(1))
+    let mut lines = Bytes::empty(alloc);
+    snoop_packets(alloc, desk, door, &mut reader, &mut lines)
 }

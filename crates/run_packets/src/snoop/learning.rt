@@ -1,14 +1,13 @@
 //! From which packets names are learnt.
 ghost use Rattle.std.specs.Prelude.{◌≡◌, option_copied, codes, bytes_eq};
-ghost use Rattle.frame_view.specs.Frame.{frame_of};
 ghost use Rattle.table_model.specs.Binds.{key_of_class};
 ghost use Rattle.table_model.specs.Tables.{is_bound};
 ghost use Rattle.run_packets.specs.Snoop.Learning as spec;
 ghost use Rattle.table_model.specs.declared.bind.Class.TheVariants.{Uri};
 
-use frame_view::{Frame, view};
+use frame_view::Frame;
 use mud_base::{Addr, Transport};
-use mud_desk::Verdict;
+use mud_desk::{JudgedFrame, Verdict};
 use packet_judge::forwarded;
 use table_model::addrs::has_addr;
 use table_model::{Class, ClassRow};
@@ -64,17 +63,13 @@ fn is_let_through(verdict: &Verdict) -> bool
 /// UDP from port 53 of an address that is bound to the class of DNS servers. None for every other
 /// frame.
 #[tactic(auto, unfolding(crate::specs::Snoop::Learning::heard_in))]
-pub(crate) fn heard_in<'a>(
-    classes: &[ClassRow],
-    frame: &'a [u8],
-    verdict: &Verdict,
-) -> Option<&'a [u8]>
-    ensures { option_copied result ≡ spec.heard_in classes.now frame.now verdict.now }
+pub(crate) fn heard_in<'a>(classes: &[ClassRow], judged: &JudgedFrame<'a>) -> Option<&'a [u8]>
+    ensures { option_copied result ≡ spec.heard_in classes.now judged.now.frame judged.now.verdict }
 {
-    if !is_let_through(verdict) {
+    if !is_let_through(&judged.verdict) {
         return None;
     }
-    let Frame::Packet(packet) = view(frame) else {
+    let Frame::Packet(packet) = &judged.frame else {
         return None;
     };
     let fields = packet.fields();

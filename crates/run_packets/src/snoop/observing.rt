@@ -12,14 +12,12 @@ ghost use Rattle.mud_desk.specs.Stays.{StaysKept};
 ghost use Rattle.run_packets.specs.Snoop.Learnt.{Learns, LearnsFirst, names_of};
 
 use crate::snoop::line::{append_dns_fault, append_name};
-use base_rows::Steps;
 use desk_model::{Command, Reply};
 use dns_snoop::{Answers, DnsFault, read_answers};
 use mud_base::{Addr, Bytes, Memory, Moment};
 use mud_desk::Desk;
 use mud_world::Keeper;
 use std::alloc::Global;
-use std::sync::ledger::Ledger;
 
 /// The reply, unless it is that memory was wanted.
 fn unless_memory(reply: Reply) -> Result<Reply, Memory>
@@ -48,13 +46,12 @@ pub(crate) fn either(first: bool, second: bool) -> bool
 
 /// Observes an address under a name, for so many seconds, at this moment.
 #[tactic(auto, using(crate::proofs::SnoopLaws::Asked::memory_leaves))]
-fn observe<K: Keeper, L: Ledger>(
+fn observe<K: Keeper>(
     alloc: Global,
     desk: &mut Desk<K>,
     name: &[u8],
     row: (Addr, u32),
     now: Moment,
-    steps: &mut Steps<L>,
 ) -> Result<Reply, Memory>
     requires kept { IsKept ⟦<K as Keeper>⟧ desk.old.keeper (tables_of desk.old.state) }
     requires asked { IsObservable name.now row }
@@ -67,19 +64,18 @@ fn observe<K: Keeper, L: Ledger>(
     ensures steady { OnErr result (faults_of ⟦<K as Keeper>⟧ desk.new.keeper ≡ faults_of ⟦<K as Keeper>⟧ desk.old.keeper) }
 {
     let name = Bytes::new(alloc, name)?;
-    unless_memory(desk.command(Command::Observe(name, row.0, row.1), now, steps))
+    unless_memory(desk.execute(Command::Observe(name, row.0, row.1), now))
 }
 
 /// Observes an address under a name, at this moment, and adds the line of it. The answer is whether
 /// the keeper failed.
-fn learn_row<K: Keeper, L: Ledger>(
+fn learn_row<K: Keeper>(
     alloc: Global,
     desk: &mut Desk<K>,
     lines: &mut Bytes,
     name: &[u8],
     row: (Addr, u32),
     now: Moment,
-    steps: &mut Steps<L>,
 ) -> Result<bool, Memory>
     requires kept { IsKept ⟦<K as Keeper>⟧ desk.old.keeper (tables_of desk.old.state) }
     requires asked { IsObservable name.now row }
@@ -90,20 +86,19 @@ fn learn_row<K: Keeper, L: Ledger>(
         (faults_of ⟦<K as Keeper>⟧ desk.old.keeper) (faults_of ⟦<K as Keeper>⟧ desk.new.keeper)) }
     ensures keeper { IfOk result (λ failed. Counts failed (faults_of ⟦<K as Keeper>⟧ desk.old.keeper) (faults_of ⟦<K as Keeper>⟧ desk.new.keeper)) }
 {
-    let reply = observe(alloc, desk, name, row, now, steps)?;
+    let reply = observe(alloc, desk, name, row, now)?;
     append_name(alloc, lines, name, row, &reply)?;
     Ok(is_of_keeper(&reply))
 }
 
 /// Observes the addresses of a name, one after the other, at this moment, and adds the line of each.
 /// The answer is whether the keeper failed at one of them; those behind it are observed.
-fn learn_rows<K: Keeper, L: Ledger>(
+fn learn_rows<K: Keeper>(
     alloc: Global,
     desk: &mut Desk<K>,
     lines: &mut Bytes,
     answers: &Answers,
     now: Moment,
-    steps: &mut Steps<L>,
 ) -> Result<bool, Memory>
     requires kept { IsKept ⟦<K as Keeper>⟧ desk.old.keeper (tables_of desk.old.state) }
     requires asked { All (IsObservable answers.now.name) answers.now.rows }
@@ -116,7 +111,7 @@ fn learn_rows<K: Keeper, L: Ledger>(
 {
     let mut failed = false;
     for row in answers.rows.as_slice() {
-        let one = learn_row(alloc, desk, lines, answers.name.octets(), *row, now, steps)?;
+        let one = learn_row(alloc, desk, lines, answers.name.octets(), *row, now)?;
         failed = either(failed, one);
     }
     Ok(failed)
@@ -124,13 +119,12 @@ fn learn_rows<K: Keeper, L: Ledger>(
 
 /// Reads a DNS message, and observes the addresses that it answers, at this moment. Their lines are
 /// added, or that of the message's fault.
-pub(crate) fn learn<K: Keeper, L: Ledger>(
+pub(crate) fn learn<K: Keeper>(
     alloc: Global,
     desk: &mut Desk<K>,
     lines: &mut Bytes,
     message: &[u8],
     now: Moment,
-    steps: &mut Steps<L>,
 ) -> Result<bool, Memory>
     requires kept { IsKept ⟦<K as Keeper>⟧ desk.old.keeper (tables_of desk.old.state) }
     ensures stays { StaysKept ⟦<K as Keeper>⟧ desk.old desk.new }
@@ -141,7 +135,7 @@ pub(crate) fn learn<K: Keeper, L: Ledger>(
     ensures keeper { IfOk result (λ failed. Counts failed (faults_of ⟦<K as Keeper>⟧ desk.old.keeper) (faults_of ⟦<K as Keeper>⟧ desk.new.keeper)) }
 {
     match read_answers(alloc, message) {
-        Ok(answers) => learn_rows(alloc, desk, lines, &answers, now, steps),
+        Ok(answers) => learn_rows(alloc, desk, lines, &answers, now),
         Err(DnsFault::Memory) => Err(Memory),
         Err(fault) => {
             append_dns_fault(lines, fault)?;

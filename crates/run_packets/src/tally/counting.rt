@@ -1,7 +1,6 @@
 //! The packets of a capture are counted as they are judged, and the lines of an hour are written when
 //! it is over.
-ghost use Rattle.std.specs.Prelude.{◌≡◌, ◌++◌, ◌∷◌, [], ℕ, List, max, OnOk, OnErr, IfOk, None, if◌then◌else◌, ◌-◌, ◌^◌, ◌<◌};
-ghost use Rattle.pcap_read.specs.Captured.{packet_of};
+ghost use Rattle.std.specs.Prelude.{◌≡◌, ◌++◌, ◌∷◌, [], List, max, OnOk, IfOk, None, if◌then◌else◌, ◌-◌, ◌^◌, ◌<◌};
 ghost use Rattle.mud_desk.specs.DeskState.{session_of};
 ghost use Rattle.drop_ledger.specs.Seen.{hour_of};
 ghost use Rattle.drop_ledger.specs.Ledger.{StandsFor, IsSameTally, HasRooms, hour_in};
@@ -18,8 +17,6 @@ use pcap_read::Captured;
 use run_captures::PacketLines;
 use run_desk::{judge_packet, moment_of};
 use std::alloc::Global;
-use std::marker::Brand;
-use std::sync::ledger::Blank;
 
 /// The moment of the session once a packet is judged: moments never go back.
 fn moment_after(moment: Moment, packet: &Captured<'_>) -> Moment
@@ -145,9 +142,9 @@ impl PacketLines for TalliedLines {
         let moment = moment_after(self.moment, packet);
         append_closed(alloc, lines, &self.tally, hour_at(moment))?;
         make_room(&mut self.tally)?;
-        let verdict = judge_packet::<Brand>(&mut self.state, packet, Blank::new(1))?;
+        let judged = judge_packet(&mut self.state, packet)?;
         self.moment = moment;
-        count_seen(&mut self.tally, &seen_as(moment, verdict, packet.octets));
+        count_seen(&mut self.tally, &seen_as(moment, &judged));
         Ok(())
     }
 

@@ -1,12 +1,11 @@
 //! What is counted of a packet that was judged.
-ghost use Rattle.std.specs.Prelude.{◌≡◌, max, if◌then◌else◌};
-ghost use Rattle.frame_view.specs.Frame.{frame_of};
+ghost use Rattle.std.specs.Prelude.{◌≡◌};
 ghost use Rattle.run_packets.specs.Tally.Tallied as spec;
 
 use drop_ledger::Seen;
-use frame_view::{Frame, view};
+use frame_view::Frame;
 use mud_base::{Mac, Moment};
-use mud_desk::Verdict;
+use mud_desk::{JudgedFrame, Verdict};
 
 /// Stands for the hardware addresses of a frame that isn't a readable packet.
 const NO_MAC: Mac = Mac([0; 6]);
@@ -26,10 +25,11 @@ fn unread(moment: Moment, verdict: Verdict) -> Seen
 
 /// What is counted of a frame that was judged at this moment.
 #[tactic(auto, unfolding(crate::specs::Tally::Tallied::seen_as))]
-pub(crate) fn seen_as(moment: Moment, verdict: Verdict, octets: &[u8]) -> Seen
-    ensures { result ≡ spec.seen_as moment verdict (frame_of octets.now) }
+pub(crate) fn seen_as(moment: Moment, judged: &JudgedFrame<'_>) -> Seen
+    ensures { result ≡ spec.seen_as moment judged.now.verdict judged.now.frame }
 {
-    match view(octets) {
+    let verdict = judged.verdict;
+    match &judged.frame {
         Frame::Packet(packet) => Seen {
             moment,
             verdict,

@@ -10,6 +10,3 @@ invariant-loop-before l = record {
   counted : l.counts ≡ verdict_counts (verdicts_on l.packets (session_of l.initial.state) (numbers_to l.before));
   small : AreAtMost (2 * l.before) l.counts;
 }
-
-abbrev pub ghosts-judge_frame : goal.ghosts-judge_frame
-ghosts-judge_frame a = record { name = a.blank.name; parts = a.blank.parts }

@@ -1,4 +1,4 @@
-use Rattle.std.proofs.Common.{◌≡◌, ◌≤◌, ◌<◌, ◌+◌, ◌^◌, ℕ, List, length, IsSome, Result, Ok, Err, refl, sym, subst, ap, ◌∙◌, arith}
+use Rattle.std.proofs.Common.{◌≡◌, ◌≤◌, ◌<◌, ◌+◌, ◌^◌, ℕ, List, length, IsSome, IfErr, Result, Ok, Err, refl, sym, subst, ap, ◌∙◌, arith}
 use Rattle.std.proofs.lemmas.Result.{err_from_is_err_and}
 use Rattle.table_model.specs.declared.thing.Thing.{Thing}
 use Rattle.acl_compile.specs.Compiled.{CompiledState}
@@ -10,6 +10,7 @@ use Rattle.packet_judge.specs.Verdicts.{history_after, noted_fields, steps_on}
 use Rattle.frame_view.specs.declared.views.Frame.{Frame}
 use Rattle.frame_view.specs.Frame.{frame_of}
 use Rattle.desk_model.specs.Verdicts.{verdict_at}
+use Rattle.mud_desk.specs.declared.state.JudgedFrame.{JudgedFrame}
 use Rattle.mud_desk.specs.RuleInputs.{AreRuleInputsOf, rule_inputs, rows_read, ruling_steps}
 use Rattle.mud_desk.specs.DeskState.{DeskState, tables_of}
 use Rattle.mud_desk.proofs.Sessions.{timely_since, timely_at, timely_same, max_first, IsJudged, judged_so, judged_not, steps_alike}
@@ -44,9 +45,9 @@ returns-clause-judged g c =
     (judged_so before after c.args.stamp n c.args.frame.now c.later-now.ensures c.judge-verdict.result verdict
     (c.in_ok-note.ensures.ok ∙ ap (λ (f : Frame). history_after c.self.inside.flows.history f c.judge-verdict.result n) c.view-view.ensures) refl refl)
 
-pub returns-in_err-note-clause-judged : goal.returns-in_err-note-clause-judged
+pub returns-in_err-note-clause-wanting : goal.returns-in_err-note-clause-wanting
 unfolding tables_of
-returns-in_err-note-clause-judged g c =
+returns-in_err-note-clause-wanting g c =
     let n = c.later-now.result in
     let r = c.rules_at.result in
     let k = rule_inputs r.things.now.things r.compiled.now r.locals.now r.flows.now.history in
@@ -57,7 +58,7 @@ returns-in_err-note-clause-judged g c =
     ∙ verdict_read (tables_of before) k (subst (λ (s : DeskState). AreRuleInputsOf (tables_of s) k) back c.rules_at.ensures.inputs)
     c.self.inside.flows.history (c.rules_at.ensures.history ∙ ap (λ (s : DeskState). s.flows.history) back) r.now n c.rules_at.ensures.now c.rules_at.ensures.within c.view-view.result c.args.frame.now c.view-view.ensures in
     let p = err_from_is_err_and c.from_residual.result c.from_residual.ensures.1 in
-    subst (λ (v : Result Verdict want.Memory). IsJudged c.args.self.now c.args.stamp c.args.frame.now v after) (sym p.1)
+    subst (λ (v : Result JudgedFrame want.Memory). IfErr v (λ memory. IsJudged c.args.self.now c.args.stamp c.args.frame.now (Err memory) after)) (sym p.1)
     (subst (λ (s : DeskState). IsJudged s c.args.stamp c.args.frame.now (Err p.0) after) c.self.view_is
     (judged_not before after c.args.stamp n c.args.frame.now c.later-now.ensures p.0
     (subst (λ (v : Verdict). IsSome (noted_fields (frame_of c.args.frame.now) v)) verdict

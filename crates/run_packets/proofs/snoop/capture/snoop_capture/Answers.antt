@@ -1,6 +1,7 @@
-use Rattle.std.proofs.Common.{rules, ◌≡◌, ◌∙◌}
+use Rattle.std.proofs.Common.{rules, ◌≡◌, ◌∙◌, List, ℕ, [], subst, sym}
 use Rattle.mud_world.specs.Kept.{faults_of}
 use Rattle.mud_desk.specs.DeskState.{session_of}
+use Rattle.run_captures.specs.Runs.{HasDone}
 use Rattle.run_captures.proofs.Done.{has_done_none}
 use Rattle.run_packets.proofs.SnoopLaws.Snooped.{part_at_first, taken_at_first}
 use Rattle.run_packets.proofs.snoop.capture.snoop_capture.Goals as goal
@@ -20,15 +21,18 @@ returns-in-Err-Memory-clause-part g c = λ tells which.
 pub returns-clause-done : goal.returns-clause-done
 returns-clause-done g c = λ tells which.
     let first = (g.D.Door.view c.args.door.now).state in
-    c.snoop_counted.ensures.done first tells (has_done_none c.in-Ok.reader first (g.D.Door.view c.begin.new.door).state (c.in-Ok.ensures.begun tells)) which
+    c.snoop_packets.ensures.done first tells (subst (λ (lines : List ℕ). HasDone [] [] c.in-Ok.reader first (g.D.Door.view c.begin.new.door).state lines) (sym c.empty-lines.ensures)
+    (has_done_none c.in-Ok.reader first (g.D.Door.view c.begin.new.door).state (c.in-Ok.ensures.begun tells))) which
 
 pub returns-clause-part : goal.returns-clause-part
 returns-clause-part g c = λ tells which.
     let first = (g.D.Door.view c.args.door.now).state in
-    c.snoop_counted.ensures.part first tells (has_done_none c.in-Ok.reader first (g.D.Door.view c.begin.new.door).state (c.in-Ok.ensures.begun tells)) which
+    c.snoop_packets.ensures.part first tells (subst (λ (lines : List ℕ). HasDone [] [] c.in-Ok.reader first (g.D.Door.view c.begin.new.door).state lines) (sym c.empty-lines.ensures)
+    (has_done_none c.in-Ok.reader first (g.D.Door.view c.begin.new.door).state (c.in-Ok.ensures.begun tells))) which
 
 pub returns-clause-taken : goal.returns-clause-taken
 returns-clause-taken g c = λ tells changed.
     let first = (g.D.Door.view c.args.door.now).state in
     let steady : (g.D.Door.view c.begin.new.door).reads ≡ (g.D.Door.view c.args.door.now).reads = search rules in
-    c.snoop_counted.ensures.taken first tells (has_done_none c.in-Ok.reader first (g.D.Door.view c.begin.new.door).state (c.in-Ok.ensures.begun tells)) (λ same. changed (same ∙ steady))
+    c.snoop_packets.ensures.taken first tells (subst (λ (lines : List ℕ). HasDone [] [] c.in-Ok.reader first (g.D.Door.view c.begin.new.door).state lines) (sym c.empty-lines.ensures)
+    (has_done_none c.in-Ok.reader first (g.D.Door.view c.begin.new.door).state (c.in-Ok.ensures.begun tells))) (λ same. changed (same ∙ steady))

@@ -1,4 +1,0 @@
-use Rattle.run_desk.proofs.judging.JudgedLinesPacketLines.append_line.Given as goal
-
-abbrev pub ghosts-judge_packet : goal.ghosts-judge_packet
-ghosts-judge_packet a = record { name = a.blank.name; parts = a.blank.parts }

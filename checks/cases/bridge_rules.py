@@ -188,23 +188,35 @@ class Network:
         time.sleep(0.1)
 
 
-@needs("ip", "nft")
-@unittest.skipIf(os.geteuid() != 0, "only root makes network namespaces")
-class Bridge(ProgramCase):
+class Networked(ProgramCase):
+    """Cases on such a network, with a console there."""
+
     alone = True
 
     def setUp(self):
         super().setUp()
-        os.environ["MUD_FILES"] = self.path("files")
-        opened = contextlib.ExitStack()
-        self.addCleanup(opened.close)
+        self.opened = contextlib.ExitStack()
+        self.addCleanup(self.opened.close)
         try:
-            self.network = opened.enter_context(Network())
+            self.network = self.opened.enter_context(Network())
         except (OSError, subprocess.CalledProcessError) as failure:
             self.skipTest(f"no network can be made ({failure})")
+
+    def post(self, path, body, method="POST"):
+        answer = self.console.tell(method, path, body)
+        self.console.close()
+        return answer
+
+
+@needs("ip", "nft")
+@unittest.skipIf(os.geteuid() != 0, "only root makes network namespaces")
+class Bridge(Networked):
+    def setUp(self):
+        super().setUp()
+        os.environ["MUD_FILES"] = self.path("files")
         self.network.learn()
         self.has_module = subprocess.run(["nft", "-c", "-f", "-"], input=PROBE, text=True, capture_output=True, check=False).returncode == 0
-        self.server = opened.enter_context(program.Server(1000000, self.path("store.db")))
+        self.server = self.opened.enter_context(program.Server(1000000, self.path("store.db")))
         self.console = console.Console(place=f"http://127.0.0.1:{self.server.port}")
         self.end = int(time.time()) + 86400
         for mac in (THING, OTHER):
@@ -214,11 +226,6 @@ class Bridge(ProgramCase):
         self.post("/locals", {"prefixes": ["192.168.77.0/28"]}, "PUT")
         for address in (ADDRESS[CLOUD], ADDRESS6[CLOUD]):
             self.post("/names", {"name": "cloud.example.com", "address": address, "ttl": 86400})
-
-    def post(self, path, body, method="POST"):
-        answer = self.console.tell(method, path, body)
-        self.console.close()
-        return answer
 
     def approve(self, octets):
         url = json.loads(octets)["ietf-mud:mud"]["mud-url"]

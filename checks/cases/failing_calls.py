@@ -60,6 +60,9 @@ class Call:
         self.result = int(result[1]) if result else 0
         self.on = self.place(run)
 
+    def __str__(self):
+        return self.line
+
     def place(self, run):
         found = re.match(r"\w+\((\d+)(?:<(.*?)>)?[,)]", self.line)
         number, what = (found[1], found[2] or "") if found else ("", "")
@@ -81,25 +84,21 @@ class Call:
 
 
 class Run:
-    """A run of the program: its status, what it wrote, its calls, and the tables that it leaves."""
+    """A run of the program in which something may fail: its status, what it wrote, and the tables that it leaves.
 
-    def __init__(self, scene, items, name=None, number=None):
+    What fails is known by its kind: `front` gives the words before the program's, `look` says what was hit, and
+    `is_right` whether the run is then as it has to be."""
+
+    def __init__(self, scene, items, failing=None):
         self.folder = tempfile.mkdtemp(dir=scene.folder)
-        self.files, self.store = os.path.join(self.folder, "files"), os.path.join(self.folder, "store")
-        log = os.path.join(self.folder, "log")
-        command = ["strace", "-qq", "-yy", "-s", "0", "-o", log, "-e", "signal=none", "-e", "trace=" + ",".join(CALLS)]
-        if name:
-            command += ["-e", f"inject={name}:error={ERROR}:when={number}"]
+        self.files, self.store, self.log = (os.path.join(self.folder, name) for name in ("files", "store", "log"))
         scene.prepare(self, items)
         with open(os.path.join(self.folder, "said"), "w+b") as self.errors:
-            self.status, self.wrote = scene.carry_out(self, items, command + [PROGRAM] + scene.words(self))
+            self.status, self.wrote = scene.carry_out(self, items, [*self.front(failing), PROGRAM, *scene.words(self)])
             self.errors.seek(0)
             self.said = self.errors.read().splitlines()
-        with open(log, errors="replace") as file:
-            self.calls = [Call(line, self) for line in file if re.match(r"\w+\(", line)]
-        self.hit = next((call for call in self.calls if call.failed), None)
-        self.taken = sum(max(call.result, 0) for call in self.calls if call.on == "input" and call.name in READS)
         self.kept = None if scene.keeps else ()
+        self.look(failing)
 
     @property
     def tables(self):
@@ -111,6 +110,25 @@ class Run:
         """Reads the tables, and takes the files away."""
         self.kept = self.tables
         shutil.rmtree(self.folder)
+
+
+class TracedRun(Run):
+    """A run whose calls are known, and in which the call of a name and a number may fail."""
+
+    def front(self, failing):
+        injected = ["-e", f"inject={failing[0]}:error={ERROR}:when={failing[1]}"] if failing else []
+        return ["strace", "-qq", "-yy", "-s", "0", "-o", self.log, "-e", "signal=none", "-e", "trace=" + ",".join(CALLS), *injected]
+
+    def look(self, failing):
+        with open(self.log, errors="replace") as file:
+            self.calls = [Call(line, self) for line in file if re.match(r"\w+\(", line)]
+        self.hit = next((call for call in self.calls if call.failed and call.on != "loader"), None)
+        self.taken = sum(max(call.result, 0) for call in self.calls if call.on == "input" and call.name in READS)
+
+    def is_right(self, scene):
+        """A write or a sync of the store that failed has to be told."""
+        is_hidden = self.hit.on == "store" and self.hit.name in KEEPS and scene.is_due(self)
+        return not is_hidden and scene.holds(self) and scene.says_why(self)
 
     def was_silent(self):
         """Whether nothing was written, and nothing read or listed behind the failing call."""
@@ -130,7 +148,7 @@ def ended(process):
 
 class Scene:
     """A command with its items: what it takes in one after the other. Parts are what is due to each."""
-    items, names, first = [], CALLS, 0
+    items, names, first, kind = [], CALLS, 0, TracedRun
 
     def __init__(self, words, pieces=(), copied=None):
         self.given, self.pieces, self.copied, self.runs = words, list(pieces), copied, {}
@@ -158,7 +176,7 @@ class Scene:
         items = tuple(items)
         with self.lock:
             if items not in self.runs:
-                self.runs[items] = Run(self, items)
+                self.runs[items] = self.kind(self, items)
                 self.runs[items].close()
             return self.runs[items]
 
@@ -174,7 +192,7 @@ class Scene:
 
     def is_left_after(self, run, count):
         """Whether the tables are those after the first items, so many."""
-        return not self.items or run.tables == self.undisturbed(range(min(count, len(self.items)))).tables
+        return run.tables == self.undisturbed(range(min(count, len(self.items)))).tables
 
     def is_kept_without(self, run, refused):
         """Whether the tables are those after the other items; or, where the failure came when the first refused
@@ -328,12 +346,10 @@ def ask(port, octets):
     return came
 
 
-def tried(scene, name, number):
-    """A run where the call of this number failed, and whether it is as it has to be; none where there was none."""
-    run = Run(scene, range(len(scene.items)), name, number)
-    is_right = run.hit is None or run.hit.on == "loader" or (scene.holds(run) and scene.says_why(run))
-    if run.hit and run.hit.on == "store" and run.hit.name in KEEPS and scene.is_due(run):
-        is_right = False
+def tried(scene, failing):
+    """A run where this failed, and whether it is as it has to be, as one is where nothing was hit."""
+    run = scene.kind(scene, range(len(scene.items)), failing)
+    is_right = run.hit is None or run.is_right(scene)
     shutil.rmtree(run.folder)
     return run, is_right
 
@@ -346,9 +362,9 @@ def each_failure(scene, several):
     for name in sorted({call.name for call in calls} & set(scene.names)):
         named = [(at, call) for at, call in enumerate(calls) if call.name == name]
         numbers = [k for k, (at, call) in enumerate(named, 1) if call.on != "loader" and at >= first]
-        yield from several.map(lambda number, name=name: tried(scene, name, number), numbers)
+        yield from several.map(lambda number, name=name: tried(scene, (name, number)), numbers)
         for number in range(len(named) + 1, 10**6):
-            run, is_right = tried(scene, name, number)
+            run, is_right = tried(scene, (name, number))
             if run.hit is None:
                 break
             yield run, is_right
@@ -362,7 +378,8 @@ def made(requests):
 
 
 def cut(octets, size):
-    return [octets[at:at + size] for at in range(0, len(octets), size)]
+    """Pieces of so many octets, behind the first four: a read that tells the format of a capture has room for no more."""
+    return [octets[:4], *(octets[at:at + size] for at in range(4, len(octets), size))]
 
 
 TWO, NETWORK = (requests_of(f"examples/{name}.session") for name in ("replay/in-pieces", "report/network"))
@@ -420,16 +437,25 @@ def may_trace():
     return subprocess.run(["strace", "-o", "/dev/null", "true"], stderr=subprocess.DEVNULL, check=False).returncode == 0
 
 
-@needs("strace")
-@cases_of(SCENES)
-class FailingCalls(ProgramCase):
+class FailingRuns(ProgramCase):
+    """Each run of a scene in which something was hit counts one. `scenes` makes the scenes, `failures` gives the runs."""
+
     def each(self, name):
-        if not may_trace():
-            self.skipTest("there is no leave to trace")
         tempfile.tempdir = self.folder
         self.addCleanup(setattr, tempfile, "tempdir", None)
         with ThreadPoolExecutor(os.cpu_count()) as several:
-            for ended, is_right in each_failure(SCENES[name](), several):
-                if ended.hit and ended.hit.on != "loader":
-                    self.holds(ended.hit.line, is_right, f"ended with {ended.status} and wrote {ended.wrote!r:.500}\n"
+            for ended, is_right in self.failures(self.scenes[name](), several):
+                if ended.hit:
+                    self.holds(str(ended.hit), is_right, f"ended with {ended.status} and wrote {ended.wrote!r:.500}\n"
                                f"  and keeps {ended.tables!r:.500}\n  and says {ended.said!r:.500}")
+
+
+@needs("strace")
+@cases_of(SCENES)
+class FailingCalls(FailingRuns):
+    scenes, failures = SCENES, staticmethod(each_failure)
+
+    def setUp(self):
+        super().setUp()
+        if not may_trace():
+            self.skipTest("there is no leave to trace")

@@ -171,6 +171,16 @@ class Unread(FaultyRuns):
         self.note(what + ", line", line, ended.out.decode().splitlines()[-1])
         self.says(what, sentence, ended)
 
+    def helps(self, what, sentence, octets, lines):
+        """By the line of tshark that stands at the end of what is said, frames reads so many lines."""
+        if not shutil.which("tshark"):
+            self.left_out(what + ", by the line", "there is no tshark")
+            return
+        line = sentence[sentence.index("tshark "):].replace("IN", self.put("in", octets)).replace("OUT", self.path("out"))
+        subprocess.run(line, shell=True, stderr=subprocess.DEVNULL, check=True)
+        ended = run("frames", input=self.path("out"))
+        self.note(what + ", by the line", (0, lines), (ended.status, ended.out.count(b"\n")))
+
     def test_links(self):
         for link, rest in ((113, " (Linux cooked), and not of Ethernet: capture at an interface, and not at 'any'"),
                            (276, " (Linux cooked, version 2), and not of Ethernet: capture at an interface, and not at 'any'"),
@@ -180,8 +190,10 @@ class Unread(FaultyRuns):
             for order in "<>":
                 self.refused(f"link {link}, order {order}", "fault LinkType", f"the capture is of link {link}{rest}",
                              program.capture([(1, bytes(60))], link=link, order=order, magic=0xA1B23C4D))
-        self.refused("a frame check sequence", "fault LinkType", "the capture says that check sequences follow its frames: tshark -F pcap -r IN -w OUT",
-                     program.capture([], link=0x24000001))
+        said = "the capture says that check sequences follow its frames: tshark -F pcap -r IN -w OUT"
+        octets = program.capture([(1, bytes(64))], link=0x24000001)
+        self.refused("a frame check sequence", "fault LinkType", said, octets)
+        self.helps("a frame check sequence", said, octets, 1)
 
     def test_packed(self):
         for tool, unpack, format in (("gzip", "zcat", "gzip"), ("zstd", "zstdcat", "zstd")):
@@ -208,24 +220,14 @@ class Unread(FaultyRuns):
         line = "tshark -r IN -Y 'frame.interface_id==0' -w OUT"
         self.refused("two links", f"fault LinkType {place}", said + line, octets)
         self.refused("a broken section", "fault Magic 0", "the section of the capture at that octet is damaged", SECTION[:8] + bytes(4) + SECTION[12:])
-        if shutil.which("tshark"):
-            command = line.replace("IN", self.put("in", octets)).replace("OUT", self.path("out"))
-            subprocess.run(command, shell=True, stderr=subprocess.DEVNULL, check=True)
-            self.note("two links, by the line", (0, 2), (run("frames", input=self.path("out")).status, run("frames", input=self.path("out")).out.count(b"\n")))
-        else:
-            self.left_out("two links, by the line", "there is no tshark")
+        self.helps("two links", line, octets, 2)
 
     def test_other_formats(self):
         said = "the input is no capture in the classic format or in pcapng; one in another format: tshark -F pcap -r IN -w OUT"
         snoop = b"snoop\0\0\0" + struct.pack(">II", 2, 4) + struct.pack(">IIIIII", 60, 60, 84, 0, 1000, 0) + bytes(60)
         self.refused("snoop's format", "fault Magic", said, snoop)
         self.refused("a text", "fault Magic", said, b"no capture at all, but a line of text\n")
-        if shutil.which("tshark"):
-            command = said.partition("format: ")[2].replace("IN", self.put("in", snoop)).replace("OUT", self.path("out"))
-            subprocess.run(command, shell=True, stderr=subprocess.DEVNULL, check=True)
-            self.note("snoop's format, by the line", 0, run("frames", input=self.path("out")).status)
-        else:
-            self.left_out("snoop's format, by the line", "there is no tshark")
+        self.helps("snoop's format", said, snoop, 1)
 
     def test_other_faults(self):
         """Of any other fault nothing is said besides."""

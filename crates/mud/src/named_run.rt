@@ -59,6 +59,7 @@ pub fn behind_name(words: &[String]) -> &[String]
 }
 
 /// A run that came to its end.
+#[derive(Clone, Copy)]
 pub struct Ran {
     /// What the program ends with.
     pub code: ExitCode,

@@ -4,7 +4,8 @@
 # make proofs     prints each clause of each public call, with the comment beside it
 # make trusted    prints the definitions that the contract of the program rests on, by chapter, with how much text they
 #                 are; COMMAND=judge: what it says of that command
-# make limits     runs into the limits that take minutes to reach, and keeps the program at work for a year
+# make limits     runs into the limits that take minutes to reach, keeps the program at work for a year, and makes a
+#                 day's page of ten million packets
 # make memory     runs the program with each allocation failing in turn
 # make twice      builds the program once more, in a folder of another name, and compares the two
 # make plants     has the prover refuse the wrong bodies in plants/, of all crates (hours) or of

@@ -3,7 +3,7 @@
 The site is that of checks/site.py, with its users, nginx and the rules on who may connect; dnsmasq, a Thing that udhcpc gets
 an address for, one that comes in the evening, a server and a scanner are in network namespaces beside it. Where systemd
 doesn't run, the lines of the units are read and their commands run by hand, at their paths, under their users, groups and
-rights. Midnight is a minute away, since the zone is chosen so; no clock is changed.
+rights. Midnight is two minutes away, since the zone is chosen so; no clock is changed.
 """
 import collections
 import hashlib
@@ -31,7 +31,7 @@ for folder in /var/lib /var/log /usr/local/share /usr/local/bin /run; do mount -
 cp -r contrib /usr/local/share/mud
 cp "$1" /usr/local/bin/mud
 ln -s "$2/log" /var/log/mud
-mkdir -p /var/lib/mud-files
+mkdir -p /var/lib/mud-files /var/lib/nginx /var/log/nginx
 ip link add br0 type bridge
 ip addr add 192.168.77.1/24 dev br0
 ip link set br0 up
@@ -116,8 +116,8 @@ class Overnight(Case):
         os.chdir(HERE)
         self.folder = tempfile.mkdtemp()
         self.addCleanup(shutil.rmtree, self.folder, ignore_errors=True)
-        # midnight at a whole minute, at least 70 seconds from now
-        self.midnight = (int(time.time()) + 70 + 59) // 60 * 60
+        # midnight at a whole minute, at least 110 seconds from now
+        self.midnight = (int(time.time()) + 110 + 59) // 60 * 60
         behind = self.midnight % 86400
         behind -= 86400 if behind > 43200 else 0
         self.zone = f"<mid>{'' if behind >= 0 else '-'}{abs(behind) // 3600}:{abs(behind) % 3600 // 60:02}"
@@ -207,7 +207,7 @@ class Overnight(Case):
         self.note("the timer's second", "*-*-* 00:00:30", Unit("mud-day.timer").of("OnCalendar"))
         self.make_folders(capture, day)
         capturing = self.site.start(*self.site.within(capture.words(self.zone)))
-        self.assertTrue(until(lambda: self.right(["ls", "/var/lib/mud-captures"]), 20), "nothing is captured")
+        self.assertTrue(until(lambda: self.right(["ls", "/var/lib/mud-captures"]) or capturing.poll() is not None, 30) and capturing.poll() is None, "nothing is captured")
         first = self.run_unit(day)
         self.note("the first run, which keeps a copy", (0, b"", b""), (first.returncode, first.stdout, first.stderr))
         self.assertLess(time.time(), self.midnight - 15, "the evening was too short for this machine")
@@ -258,7 +258,7 @@ class Overnight(Case):
         self.note("what was denied of it", len(refused), denied.get(("from", CLOUD, "8080", "peer")))
         self.note("the scan", {(port, SCANNER) for port in map(str, PORTS)}, {(port, peer) for side, peer, port, whose in denied if side == "to" and whose == "own"})
         self.note("a Thing of the evening", [LATE], list(told["announced"]))
-        self.note("who held it", ["anna"], [row["user"] for row in told["changes"] if "hold" in row["words"].lower()])
+        self.note("who held it", ["anna"], [row["user"] for row in told["changes"] if row["words"] == f"held {LATE}"])
         self.note("what the kernel dropped is known", 0, told["kernel"])
         page = read("report.html")
         self.holds("the page", all(words in page for words in (f"Things on {date}", URL.removeprefix("https://"), "What is proved", "anna", "20 ports from 1 to 20 of the Thing")))

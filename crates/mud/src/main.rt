@@ -2,6 +2,7 @@
 //! over them.
 #![tactic(auto)]
 
+pub mod next_run;
 mod store;
 mod store_runs;
 

@@ -3,6 +3,7 @@
 #![tactic(auto)]
 
 mod named_run;
+pub mod next_run;
 mod store;
 mod store_ends;
 mod store_runs;

@@ -10,7 +10,7 @@ use keep_sqlite::FileKeeper;
 use mud_cli::Status;
 use mud_world::{Item, Keeper, MemoryKeeper};
 use run_words::{Command, command_of};
-use sqlite::{Connection, Error, ErrorCode, FileStore};
+use sqlite::{Connection, Error, ErrorCode, FileStore, Start};
 use sqlite_disk::{Disk, Files};
 use std::alloc::Global;
 
@@ -50,11 +50,11 @@ impl Behind {
 
 /// What is to be told behind a run with this status. Its keeper is let go, and the log of a file is copied
 /// into it.
-pub fn end_run<D: Disk + Drop>(
+pub fn end_run<D: Disk + Drop, S: Start>(
     alloc: Global,
     words: &[String],
     status: u8,
-    keeper: StoreKeeper<MemoryKeeper, FileKeeper<FileStore<D>>>,
+    keeper: StoreKeeper<MemoryKeeper, FileKeeper<FileStore<D>, S>>,
 ) -> Behind {
     let mut keeper = keeper;
     let mut behind = seen_behind(alloc, command_of(alloc, words), status, &mut keeper);
@@ -100,8 +100,8 @@ fn is_dns_class(item: &Item) -> bool {
 }
 
 /// Closes what a keeper keeps its items in.
-fn close<D: Disk + Drop>(
-    keeper: StoreKeeper<MemoryKeeper, FileKeeper<FileStore<D>>>,
+fn close<D: Disk + Drop, S: Start>(
+    keeper: StoreKeeper<MemoryKeeper, FileKeeper<FileStore<D>, S>>,
 ) -> Option<Unclosed> {
     match keeper {
         StoreKeeper::Memory(_) => None,
@@ -111,7 +111,7 @@ fn close<D: Disk + Drop>(
 
 /// Copies the log of a file into it, where it was opened, and closes it. Of a store that its disk has shut
 /// nothing more is told.
-fn close_file<D: Disk + Drop>(keeper: FileKeeper<FileStore<D>>) -> Option<Unclosed> {
+fn close_file<D: Disk + Drop, S: Start>(keeper: FileKeeper<FileStore<D>, S>) -> Option<Unclosed> {
     let Ok(keeper) = keeper.into_keeper() else {
         return None;
     };

@@ -3,7 +3,7 @@ ghost use Rattle.std.specs.Prelude.{◌≡◌, ◌↔◌, None, Some};
 ghost use Rattle.run_common.specs.Status.{Is, IsNot, status_number};
 ghost use Rattle.run_common.specs.declared.status.Status.TheVariants.{Unlisted};
 ghost use Rattle.run_words.specs.Words.{command_in, words_of};
-ghost use Rattle.mud_cli.specs.NextRun.{LeavesBehind};
+ghost use Rattle.mud_cli.specs.NextRun.{LeavesBehind, LeavesSame};
 ghost use Rattle.mud_cli.specs.Runs.{AsTold, Does, LeavesAlone, world};
 
 use crate::answer::{Input, answer_input};
@@ -87,6 +87,7 @@ pub fn mud_main<K: Keeper, D: Door, P: Spool, C: Clock>(
         (world door.old spool.old clock.old) (world door.new spool.new clock.new) result.0) (words_of words.now) }
     // What a crash leaves at its end, the next run finds.
     ensures left { LeavesBehind ⟦<K as Keeper>⟧ keeper result.1 }
+    ensures reads { AsTold (LeavesSame ⟦<K as Keeper>⟧ keeper result.1) (words_of words.now) }
 {
     let Some(command) = command_of(alloc, words) else {
         return (Status::Unlisted.number(), keeper);

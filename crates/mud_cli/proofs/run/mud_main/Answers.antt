@@ -1,7 +1,8 @@
 use Rattle.std.proofs.Common.{ℕ, sym, ◌∙◌, subst}
 use Rattle.run_words.specs.declared.command.Command.{Command}
+use Rattle.mud_cli.specs.NextRun.{LeavesSame}
 use Rattle.mud_cli.specs.Runs.{Does, LeavesAlone, world}
-use Rattle.mud_cli.proofs.NextRuns.{runs_leave}
+use Rattle.mud_cli.proofs.NextRuns.{reads_leave, runs_leave}
 use Rattle.mud_cli.proofs.Promised.{promised}
 use Rattle.mud_cli.proofs.run.mud_main.Goals as goal
 
@@ -26,3 +27,10 @@ returns-clause-left g c =
     let run = c.run_command-status in
     runs_leave g.K.Keeper c.args.keeper run.result.1 _ g.D.Door g.P.Spool g.C.Clock (world c.args.door.now c.args.spool.now c.args.clock.now)
     (world run.new.door run.new.spool run.new.clock) c.in-Some.command run.ensures.does run.ensures.alone
+
+pub returns-clause-reads : goal.returns-clause-reads
+returns-clause-reads g c = λ command named.
+    let run = c.run_command-status in
+    promised (LeavesSame g.K.Keeper c.args.keeper run.result.1) c.in-Some.command command (sym c.in-Some.is ∙ c.command_of.ensures ∙ named)
+    (reads_leave g.K.Keeper c.args.keeper run.result.1 _ g.D.Door g.P.Spool g.C.Clock (world c.args.door.now c.args.spool.now c.args.clock.now)
+    (world run.new.door run.new.spool run.new.clock) c.in-Some.command run.ensures.does run.ensures.alone)

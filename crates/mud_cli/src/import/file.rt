@@ -63,6 +63,8 @@ fn reply_to<K: Keeper, L: Ledger, P: Spool, C: Clock>(
     ensures still { OnErr result (session_of desk.new.state ≡ session_of desk.old.state) }
     ensures steady { OnErr result (faults_of ⟦<K as Keeper>⟧ desk.new.keeper ≡ faults_of ⟦<K as Keeper>⟧ desk.old.keeper) }
     ensures clock { C.tells → OnErr result ((C.moments clock.new ≡ C.moments clock.old) ⊎ (C.moments clock.new ≡ later_moments (C.moments clock.old))) }
+    // The clock is asked behind the read of the file.
+    ensures unasked { IsTrue (has_failed result) → clock.new ≡ clock.old }
     ensures same { P.tells → (P.view spool.new).files ≡ (P.view spool.old).files }
     ensures cause { Counts (has_failed result) (P.view spool.old).faults (P.view spool.new).faults }
     ensures stop { IsTrue (has_failed result) → StopsAtFailure (P.view spool.new).failed (P.view spool.old).faults (P.view spool.new).faults }

@@ -1,8 +1,9 @@
 //! A run over what its words name: the store is their second word, and the folder their third.
-ghost use Rattle.std.specs.Prelude.{◌≡◌, ◌↔◌, None, IfOk, drop};
+ghost use Rattle.std.specs.Prelude.{◌≡◌, ◌↔◌, None, IfOk, IfSome, drop};
 ghost use Rattle.std.specs.Process.{exit_status};
 ghost use Rattle.run_common.specs.Status.{Is};
 ghost use Rattle.run_common.specs.declared.status.Status.TheVariants.{Unlisted};
+ghost use Rattle.run_words.specs.Operands.{folder_in, store_in};
 ghost use Rattle.run_words.specs.Words.{command_in, words_of};
 
 use crate::store_ends::Behind;
@@ -16,31 +17,36 @@ use std::process::ExitCode;
 /// The word of a store that is kept in memory alone, and is empty at the start of each run.
 const IN_MEMORY: &str = ":memory:";
 
-/// The path of the file that is the store of these words, where it is a file.
-pub fn path_of(alloc: Global, words: &[String]) -> Result<Option<String>, AllocError>
+/// The words that name the store and the folder of a command. A command without a store keeps
+/// nothing, and one without a folder lists none.
+fn operands(alloc: Global, words: &[String]) -> (&str, &str)
+    ensures store { IfSome (command_in (words_of words.now)) (λ command.
+        IfSome (store_in command (words_of words.now)) (λ word. result.0.now ≡ word)) }
+    ensures folder { IfSome (command_in (words_of words.now)) (λ command.
+        IfSome (folder_in command (words_of words.now)) (λ word. result.1.now ≡ word)) }
 {
     let Some(command) = command_of(alloc, words) else {
-        return Ok(None);
+        return (IN_MEMORY, "");
     };
-    let Some(word) = store_word(command, words) else {
-        return Ok(None);
-    };
-    if word == IN_MEMORY {
+    (
+        store_word(command, words).unwrap_or(IN_MEMORY),
+        folder_word(command, words).unwrap_or(""),
+    )
+}
+
+/// The path of the file that is the store of these words, where it is a file.
+pub fn path_of(alloc: Global, words: &[String]) -> Result<Option<String>, AllocError> {
+    let (store, _) = operands(alloc, words);
+    if store == IN_MEMORY {
         return Ok(None);
     }
-    Ok(Some(String::from_str(alloc, word)?))
+    Ok(Some(String::from_str(alloc, store)?))
 }
 
 /// The path of the folder of these words. That of a command without one is empty.
-pub fn folder_of(alloc: Global, words: &[String]) -> Result<String, AllocError>
-{
-    let Some(command) = command_of(alloc, words) else {
-        return Ok(String::new(alloc));
-    };
-    match folder_word(command, words) {
-        Some(word) => String::from_str(alloc, word),
-        None => Ok(String::new(alloc)),
-    }
+pub fn folder_of(alloc: Global, words: &[String]) -> Result<String, AllocError> {
+    let (_, folder) = operands(alloc, words);
+    String::from_str(alloc, folder)
 }
 
 /// The words after the program's name.

@@ -1,4 +1,3 @@
-pub mod NamedRuns
 pub mod Runs
 pub mod StoreKeepers
 pub mod TwoRuns

@@ -1,17 +1,12 @@
 //! What stands behind a run over a store: what of it is to be told, and the end of its file.
-ghost use Rattle.std.specs.Prelude.{IfErr, IfOk};
-ghost use Rattle.sqlite.specs.Closing.{IsCopied};
-ghost use Rattle.sqlite.specs.Files.{IsClosed};
-ghost use Rattle.sqlite_wal.specs.Reads.{AreClean};
-
 use crate::store::StoreKeeper;
 use item_codec::kinds::{CLASS_KIND, THING_KIND};
 use keep_sqlite::FileKeeper;
 use mud_cli::Status;
 use mud_world::{Item, Keeper, MemoryKeeper};
 use run_words::{Command, command_of};
-use sqlite::{Connection, Error, ErrorCode, FileStore, Start};
-use sqlite_disk::{Disk, Files};
+use sqlite::{Error, ErrorCode, FileStore, Start};
+use sqlite_disk::Disk;
 use std::alloc::Global;
 
 /// The key of the item that is the class of DNS servers (RFC 8520, section 4.6).
@@ -115,21 +110,9 @@ fn close_file<D: Disk + Drop, S: Start>(keeper: FileKeeper<FileStore<D>, S>) -> 
     let Ok(keeper) = keeper.into_keeper() else {
         return None;
     };
-    match close_connection(keeper.give_back()) {
-        Ok(_) | Err((Error::SqliteFailure(ErrorCode::Closed), _)) => None,
-        Err((Error::SqliteFailure(ErrorCode::DiskFull), _)) => Some(Unclosed::DiskFull),
+    match keeper.give_back().close() {
+        Ok(()) | Err(Error::SqliteFailure(ErrorCode::Closed)) => None,
+        Err(Error::SqliteFailure(ErrorCode::DiskFull)) => Some(Unclosed::DiskFull),
         Err(_) => Some(Unclosed::Other),
     }
-}
-
-/// Copies the log of a connection's database into its file, and hands the files out.
-pub fn close_connection<D: Disk + Drop>(
-    connection: Connection<FileStore<D>>,
-) -> Result<Files<D>, (Error, FileStore<D>)>
-    // What was committed last is in the file alone, as it reads now and after a crash.
-    ensures copied { IfOk result (λ files. AreClean D.Disk files.log files.db → IsCopied connection files) }
-    // Where that failed, both files have what they had.
-    ensures kept { IfErr result (λ failed. IsClosed connection failed.1) }
-{
-    connection.close_files()
 }

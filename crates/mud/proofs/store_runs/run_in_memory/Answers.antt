@@ -8,5 +8,5 @@ returns-clause-runs g c =
     record {
       first = c.new-keeper.result;
       empty = subst (λ items. IsNew items c.new-keeper.result) c.new.ensures c.new-keeper.ensures;
-      does = record { untouched = run.untouched; does = run.does; alone = run.alone; left = run.left };
+      does = record { untouched = run.untouched; does = run.does; alone = run.alone; left = run.left; reads = run.reads };
     }

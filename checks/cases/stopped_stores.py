@@ -327,7 +327,7 @@ class Killed(Stores):
                 if ended.status != -9:
                     break
                 counts.add(self.behind(f"six requests, killed before {call} {number}", ended, 1))
-        self.note("requests that were answered", set(range(6)), counts)
+        self.note("requests that were answered", set(range(7)), counts)
 
 
 class Client(threading.Thread):
@@ -516,14 +516,16 @@ class Full(Stores):
         self.note("where there is room again", (0, wanted, b""), (ended.status, ended.out, ended.errors))
 
     def test_limit_at_the_end(self):
-        self.limit(16)
+        self.limit(8)
         self.unclosed(self.store)
 
     def test_limit(self):
         self.limit(0)
         self.not_made(self.store)
         self.limit(sum(os.path.getsize(path) for path in (self.store, self.store + "-wal")) // 1024 + 256)
-        self.stays(self.store, self.fills_up(self.store))
+        kept = self.fills_up(self.store)
+        self.limit(8)
+        self.stays(self.store, kept)
 
     def test_full_disk(self):
         small = self.path("small")

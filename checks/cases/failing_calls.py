@@ -13,8 +13,9 @@ a failure write and keep. Of each other run this has to hold, by what the failin
                     Behind it: the answer 503, or the line 'keeper' and 7, in place of what is due, also
                     for the changes behind it, where the failure shut the file. All else is as in a run
                     without these requests or files, and so is the file when it is opened again; but it
-                    may hold the first one of them, where the failure came when all was written. A write
-                    or a sync of the store that failed is always told.
+                    may hold the first one of them, where the failure came when all was written. In the
+                    closing: all is as due, and its log stays beside it, which is told. A write or a sync
+                    of the store that failed is always told.
   connection        It is over, with a first part of its answer, and the next one is served.
   port              Status 4: it can't be listened on, or the next connection can't be taken.
 
@@ -49,6 +50,7 @@ LONGEST = 60
 MOST_IN_LOG = 494
 KEEPER = answer(503, '{"rule":"keeper"}')
 ERROR = os.environ.get("ERROR", "EIO")
+UNCLOSED = ": its log stays beside it: the disk " + ("is full" if ERROR == "ENOSPC" else "failed")
 
 
 class Call:
@@ -126,9 +128,10 @@ class TracedRun(Run):
         self.taken = sum(max(call.result, 0) for call in self.calls if call.on == "input" and call.name in READS)
 
     def is_right(self, scene):
-        """A write or a sync of the store that failed has to be told."""
-        is_hidden = self.hit.on == "store" and self.hit.name in KEEPS and scene.is_due(self)
-        return not is_hidden and scene.holds(self) and scene.says_why(self)
+        """A write or a sync of the store that failed has to be told; in the closing all is as due."""
+        if self.hit.on == "store" and scene.is_due(self) and (self.said or self.hit.name in KEEPS):
+            return self.said == [f"mud: {self.store}{UNCLOSED}".encode()]
+        return scene.holds(self) and scene.says_why(self)
 
     def was_silent(self):
         """Whether nothing was written, and nothing read or listed behind the failing call."""

@@ -1,13 +1,19 @@
-"""Builds the program unproved with wrong bodies of plants/, and looks whether the check that is named with each refuses it.
+"""Edits texts by checks/planted.list, and builds the program unproved with wrong bodies of plants/: whether the named check refuses each.
 
-Each program has several of them, far from one another, so that each check meets one alone. It takes some minutes a program.
+Each program has several wrong bodies, far from one another, so that each check meets one alone. It takes some minutes a program.
 """
 import os
+import shutil
 import subprocess
+import tempfile
 
 from checks import texts, unproved
-from checks.case import ProgramCase, cases_of, needs
+from checks.case import Case, ProgramCase, cases_of, needs
 from checks.cases.lent_views import copy_crates
+from checks.program import PROGRAM
+
+EDITS = {line.split("\t")[0]: line.replace("\\n", "\n").replace("\\t", "\t").split("\t", 4)[1:]
+         for line in texts.lines("checks/planted.list") if not line.startswith("#")}
 
 PROGRAMS = {
     "first": {"dhcp_lldp/order_not_looked_at": "examples.lldp", "http_requests/close_ignored": "sessions.connection-ends",
@@ -22,6 +28,37 @@ PROGRAMS = {
                "dns_snoop/first_answer_alone": "examples.resolvers", "rule_export/peer_on_the_other_side": "exported-lists.first_store",
                "console/one_connection_served": "real-clients.going_away"},
 }
+
+
+def checked(check, top, program):
+    """The status of a check in the repository at this top, and what it says of the program."""
+    ran = subprocess.run([top + "/checks/run", check], env={**os.environ, "MUD": program}, stdout=subprocess.PIPE, stderr=subprocess.STDOUT, check=False)
+    return ran.returncode, ran.stdout.decode("utf-8", "replace")
+
+
+def is_refused(check, status, said):
+    return status == 1 and "left out" not in said and f"\n{check}" in "\n" + said
+
+
+@cases_of(EDITS)
+class Edited(Case):
+    @classmethod
+    def setUpClass(cls):
+        cls.folder = tempfile.mkdtemp()
+        cls.addClassCleanup(shutil.rmtree, cls.folder)
+        shutil.copytree(texts.HERE, cls.folder + "/top", ignore=shutil.ignore_patterns(".git", "out"))
+
+    def each(self, name):
+        (check, path, old, new), text = EDITS[name], texts.read(EDITS[name][1])
+        self.assertEqual(1, text.count(old), f"{path} doesn't have this text once: {old}")
+        for now in (text, text.replace(old, new)):
+            with open(f"{self.folder}/top/{path}", "w", encoding="utf-8", errors="surrogateescape") as file:
+                file.write(now)
+            status, said = checked(check, self.folder + "/top", os.path.abspath(PROGRAM))
+            if now == text:
+                self.note(f"{check} without the edit", 0, status)
+        self.holds(f"{check} with the edit", is_refused(check, status, said), said[-600:])
+        shutil.copy(path, f"{self.folder}/top/{path}")
 
 
 @needs("rt", "gcc")
@@ -39,6 +76,5 @@ class Planted(ProgramCase):
                     file.write(text)
         unproved.build(self.folder, self.path("mud"))
         for plant, check in PROGRAMS[name].items():
-            ran = subprocess.run(["checks/run", check], env={**os.environ, "MUD": self.path("mud")}, stdout=subprocess.PIPE, check=False)
-            said = ran.stdout.decode("utf-8", "replace")
-            self.holds(plant, ran.returncode == 1 and "left out" not in said and f"\n{check}" in "\n" + said, f"{check} takes it:\n{said[-600:]}")
+            status, said = checked(check, texts.HERE, self.path("mud"))
+            self.holds(plant, is_refused(check, status, said), f"{check} takes it:\n{said[-600:]}")

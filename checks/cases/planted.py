@@ -17,10 +17,10 @@ EDITS = {line.split("\t")[0]: line.replace("\\n", "\n").replace("\\t", "\t").spl
 
 PROGRAMS = {
     "first": {"dhcp_lldp/order_not_looked_at": "examples.lldp", "http_requests/close_ignored": "sessions.connection-ends",
-              "run_words/port_65536_taken": "faulty-runs.unlisted", "flow_table/generation_of_a_day": "connections.memory",
-              "keep_sqlite/stamp_taken_away_behind_a_reading": "stopped-stores.openings", "read_buffer/failed_read_as_end": "failing-calls.check",
+              "run_words/port_65536_taken": "faulty-runs.unlisted", "flow_table/each_connection_begins_the_generation": "connections.memory",
+              "keep_sqlite/stamp_taken_away_behind_a_reading": "stopped-stores.openings", "read_buffer/failed_read_as_end": "failing-calls.replay_in_memory",
               "frame_view/ninth_extension_walked": "hostile-inputs.extensions", "run_captures/offset_forgotten": "hostile-inputs.frames",
-              "bind_book/ended_address_counts": "second-reading.in_memory", "mud_file/hours_169_taken": "examples.usage_edits"},
+              "bind_book/ended_address_counts": "sessions.limits-of-bindings", "mud_file/hours_169_taken": "examples.usage_edits"},
     "second": {"run_packets/others_left_out": "examples.many_peers", "console_bodies/prefix_dropped": "sessions.lengths",
                "run_desk/bad_item_told_as_bad_capture": "faulty-runs.bad_item", "mud_cli/failed_write_ignored": "faulty-runs.folders",
                "flow_table/generations_change_places_at_the_turn": "connections.memory",

@@ -50,7 +50,6 @@ LONGEST = 60
 MOST_IN_LOG = 494
 KEEPER = answer(503, '{"rule":"keeper"}')
 ERROR = os.environ.get("ERROR", "EIO")
-UNCLOSED = ": its log stays beside it: the disk " + ("is full" if ERROR == "ENOSPC" else "failed")
 
 
 class Call:
@@ -130,7 +129,8 @@ class TracedRun(Run):
     def is_right(self, scene):
         """A write or a sync of the store that failed has to be told; in the closing all is as due."""
         if self.hit.on == "store" and scene.is_due(self) and (self.said or self.hit.name in KEEPS):
-            return self.said == [f"mud: {self.store}{UNCLOSED}".encode()]
+            cause = "is full" if ERROR == "ENOSPC" and self.hit.name in KEEPS else "failed"
+            return self.said == [f"mud: {self.store}: its log stays beside it: the disk {cause}".encode()]
         return scene.holds(self) and scene.says_why(self)
 
     def was_silent(self):

@@ -89,11 +89,12 @@ class Captures:
     def read(self):
         """Reads the files that have packets of the two days."""
         chosen = self.chosen()
+        # of each interface the last file may be under way
+        last = {path.rpartition("-")[0]: path for _, path in chosen}
         for at, (first, path) in enumerate(chosen, 1):
             self.show("reading the captures", f"{at} of {len(chosen)}, of {clock(first)}", at / len(chosen))
-            is_last = at == len(chosen)
             try:
-                self.take(path, is_last)
+                self.take(path, path in last.values())
             except (OSError, captures.Unread) as failure:
                 self.remarks.append(f"{path} is left out: {failure}")
         if not any(piece.last >= self.start and piece.first < self.end for piece in self.pieces):
@@ -111,7 +112,8 @@ class Captures:
                 self.remarks.append(f"{path} has no whole packet")
             except (OSError, captures.Unread) as failure:
                 self.remarks.append(f"{path} is left out: {failure}")
-        found.sort()
+        # of those that begin alike the longest goes first, as another one may be its beginning
+        found.sort(key=lambda row: (row[0], -size_of(row[1]), row[1]))
         after = [second for second, _ in found[1:]] + [self.end]
         return [row for row, second in zip(found, after) if row[0] < self.end and second >= self.before]
 
@@ -130,7 +132,6 @@ class Captures:
                 packets += len(part.seconds)
                 size += part.end
         except captures.Cut:
-            # the last file may be under way
             if not is_last or os.path.getmtime(path) < time.time() - 60:
                 self.remarks.append(f"{path} is cut behind {packets} packet{'' if packets == 1 else 's'}, at {clock(last)}")
         except captures.Unread as failure:
@@ -194,6 +195,14 @@ class Captures:
             name, found = captures.answers(message)
             for address, _ in found:
                 self.answers.setdefault((packet.to, name, str(address)), second)
+
+
+def size_of(path):
+    """How many octets a file has, or none where it went."""
+    try:
+        return os.path.getsize(path)
+    except OSError:
+        return 0
 
 
 def of_interest(frame):
@@ -272,6 +281,8 @@ def parts_of_frames(frames):
 def parts_of(piece):
     """The frames of a piece, by parts."""
     left = piece.packets
+    if not os.path.exists(piece.path):
+        raise Fault(f"{piece.path} went while the day was made")
     for part in parts_in(piece.path):
         yield part.first(left)
         left -= len(part.seconds)

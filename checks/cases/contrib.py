@@ -236,7 +236,7 @@ class Told(Contrib):
         self.note("add, of an unknown hardware address", b"", self.dnsmasq("add", "00:03:00:01:02:00:00:00:00:0c", "2001:db8::78", IAID="1"))
         self.note("another word", b"", self.dnsmasq("init"))
         said = self.dnsmasq("old", mac, "192.0.2.78", MUD_URL="http://x/", TIME_REMAINING="300")
-        self.note("a URL that is none, what dnsmasq may log of it", "dnsmasq-script: the console refused /hear/dhcp: 422 Url Scheme\n", said.decode())
+        self.note("a URL that is none, what dnsmasq may log of it", "dnsmasq-script: the console refused /hear/dhcp: 400 Url Scheme\n", said.decode())
         self.note("the lease", [("192.0.2.78", 300)], [row for row in self.leased(mac) if row[0] == "192.0.2.78"])
 
     def test_feed(self):

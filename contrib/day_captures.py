@@ -90,7 +90,7 @@ class Captures:
         """Reads the files that have packets of the two days."""
         chosen = self.chosen()
         # of each interface the last file may be under way
-        last = {path.rpartition("-")[0]: path for _, path in chosen}
+        last = {interface_of(path): path for _, path in chosen}
         for at, (first, path) in enumerate(chosen, 1):
             self.show("reading the captures", f"{at} of {len(chosen)}, of {clock(first)}", at / len(chosen))
             try:
@@ -114,8 +114,14 @@ class Captures:
                 self.remarks.append(f"{path} is left out: {failure}")
         # of those that begin alike the longest goes first, as another one may be its beginning
         found.sort(key=lambda row: (row[0], -size_of(row[1]), row[1]))
-        after = [second for second, _ in found[1:]] + [self.end]
-        return [row for row, second in zip(found, after) if row[0] < self.end and second >= self.before]
+        kept, following, after = [], {}, self.end
+        for second, path in reversed(found):
+            # a file ends where the next one of its interface begins; the last one may go on behind others
+            ends = following.get(interface_of(path)) or max(after, changed(path))
+            if second < self.end and ends >= self.before:
+                kept.append((second, path))
+            following[interface_of(path)] = after = second
+        return kept[::-1]
 
     def take(self, path, is_last):
         """Takes a file in: what is heard in it, and what is wrong with it."""
@@ -197,10 +203,23 @@ class Captures:
                 self.answers.setdefault((packet.to, name, str(address)), second)
 
 
+def interface_of(path):
+    """The interface, in the name that 'capture' gives."""
+    return path.rpartition("-")[0]
+
+
 def size_of(path):
     """How many octets a file has, or none where it went."""
     try:
         return os.path.getsize(path)
+    except OSError:
+        return 0
+
+
+def changed(path):
+    """The second in which a file was changed last, or 0 where it went."""
+    try:
+        return os.path.getmtime(path)
     except OSError:
         return 0
 

@@ -480,6 +480,20 @@ class Bad(OfDays):
         rows = self.told()["hours"]
         self.note("the hours that are twice, and the one that is cut", (2, 65, 1), tuple(rows[at]["passed"] for at in (8, 10, 17)))
 
+    def test_interfaces(self):
+        """A file of another interface that goes on behind those of the first one, and the files of both that are under way."""
+        def frame(hour):
+            return START + int(hour * HOUR), days.ethernet(LAPTOP, days.ROUTER, 0x0800, bytes(20))
+        self.put("captures/br0-20261128T223000Z.pcap", capture([frame(-24.5)]))
+        self.put("captures/br1-20261128T220000Z.pcap", capture([frame(-25), frame(6), frame(23.6)])[:-3])
+        with open(self.name(23), "rb+") as file:
+            file.write(capture([frame(23.2), frame(23.5)])[:-3])
+            file.truncate()
+        self.note("status", 0, self.day(DATE)[0])
+        rows = self.told()["hours"]
+        self.note("unmanaged packets of six and of the last hour", (2, 1), (rows[6]["unmanaged"], rows[23]["unmanaged"]))
+        self.note("what is cut", [], [line for line in self.told()["remarks"] if "is cut" in line and "-20261130T160000Z" not in line])
+
     def test_clock(self):
         """A clock that was set back."""
         rows = [(START + 20 * HOUR + at, days.ethernet(LAPTOP, days.ROUTER, 0x0800, bytes(20))) for at in (1000, 2000, 100)]

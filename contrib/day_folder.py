@@ -10,6 +10,7 @@ import os
 import re
 import shutil
 import subprocess
+import sys
 import tempfile
 import time
 
@@ -259,7 +260,11 @@ def one_at_a_time():
     """Waits for another 'mud-day' that makes a day."""
     place = os.open(days_folder(), os.O_RDONLY | os.O_DIRECTORY)
     try:
-        fcntl.flock(place, fcntl.LOCK_EX)
+        try:
+            fcntl.flock(place, fcntl.LOCK_EX | fcntl.LOCK_NB)
+        except BlockingIOError:
+            print("mud-day: another one makes a day, and this one waits for it", file=sys.stderr, flush=True)
+            fcntl.flock(place, fcntl.LOCK_EX)
         yield
     finally:
         os.close(place)

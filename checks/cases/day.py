@@ -6,6 +6,7 @@ commands that the folder names), and from what was made. The page is looked at i
 import base64
 import collections
 import contextlib
+import fcntl
 import glob
 import gzip
 import hashlib
@@ -630,6 +631,18 @@ class Broken(OfDays):
         self.note("a day that was put aside", 1, self.day(DATE, MUD=self.program_that("exit 7"))[0])
         self.note("is in its place again", ["mark"], os.listdir(self.path("days/" + DATE)))
         self.note("the next run", 0, self.day(DATE)[0])
+        self.note("what is there then", [DATE, "copies"], sorted(os.listdir(self.path("days"))))
+
+    def test_two(self):
+        """Two runs wait for each other."""
+        place = os.open(self.path("days"), os.O_RDONLY)
+        fcntl.flock(place, fcntl.LOCK_EX)
+        process = subprocess.Popen(["contrib/mud-day", "--in", self.folder, DATE], env=self.environment, stderr=subprocess.PIPE)
+        self.note("words", b"mud-day: another one makes a day, and this one waits for it\n", process.stderr.readline())
+        self.note("what is there", ["copies"], os.listdir(self.path("days")))
+        os.close(place)
+        self.note("behind it", b"", process.communicate()[1])
+        self.note("status", 0, process.returncode)
         self.note("what is there then", [DATE, "copies"], sorted(os.listdir(self.path("days"))))
 
     def test_folders(self):

@@ -258,6 +258,11 @@ class Made(OfDays):
         """The sums hold, a change is seen, and so is a capture that went."""
         self.note("sha256sum", 0, run("-c", "--quiet", "SHA256SUMS", program="sha256sum", cwd=self.path("days/" + DATE)).status)
         self.note("verify", 0, self.day("--verify", DATE)[0])
+        other = self.put("other", f"#!/bin/sh\nexec '{program.PROGRAM}' \"$@\"\n".encode())
+        os.chmod(other, 0o755)
+        ended = self.day("--verify", DATE, MUD=other)
+        self.note("another program", (1, ["the program isn't that of the day, of which day.json has the SHA-256", "commands comes out otherwise", "day.json comes out otherwise"]),
+                  (ended[0], ended[2].decode().replace("mud-day: ", "").splitlines()))
         with open(self.path(f"days/{DATE}/lines"), "ab") as file:
             file.write(b"\n")
         ended = self.day("--verify", DATE)

@@ -616,7 +616,7 @@ class Broken(OfDays):
         """The program is killed in the midst: what stood there stays, and nothing else does."""
         self.assertEqual(self.day(DATE)[0], 0)
         sums = self.of("SHA256SUMS")
-        ended = self.day(DATE, MUD=self.program_that("head -c 500 > part; kill -9 $$"))
+        ended = self.day(DATE, MUD=self.program_that("head -c 500 > /dev/null; kill -9 $$"))
         self.note("status", 1, ended[0])
         self.holds("words", b"ended with -9" in ended[2] and b"Traceback" not in ended[2], ended[2])
         self.note("what is there", [DATE, "copies"], sorted(os.listdir(self.path("days"))))

@@ -1,5 +1,6 @@
 -- What the words of a run name.
 use Rattle.std.specs.Prelude.{ℕ, List, [], codes, bytes_eq, Option, Some, None, option_and_then, if◌then◌else◌}
+use Rattle.std.specs.Option.{unwrap_or}
 use Rattle.run_words.specs.Operands as operand
 use Rattle.run_words.specs.Words.{command_in}
 
@@ -11,10 +12,6 @@ file_at word = if bytes_eq word (codes ":memory:") then None else Some word
 abbrev pub path_in : List (List ℕ) → Option (List ℕ)
 path_in words = option_and_then (λ command. option_and_then file_at (operand.store_in command words)) (command_in words)
 
--- the path of the folder, and none but the empty one where the command has no folder
+-- the path of the folder, and the empty one where the command has no folder
 abbrev pub folder_in : List (List ℕ) → List ℕ
-folder_in words = or_empty (option_and_then (λ command. operand.folder_in command words) (command_in words))
-  where
-    or_empty : Option (List ℕ) → List ℕ
-    or_empty (Some folder) = folder
-    or_empty None = []
+folder_in words = unwrap_or (option_and_then (λ command. operand.folder_in command words) (command_in words)) []

@@ -25,6 +25,7 @@ use std::process::ExitCode;
 const IN_MEMORY: &str = ":memory:";
 
 /// The path of the file that is the store of these words, where it is a file.
+#[tactic(auto, using(crate::proofs::NamedRuns::no_path, crate::proofs::NamedRuns::no_file, crate::proofs::NamedRuns::file_named))]
 pub fn path_of(alloc: Global, words: &[String]) -> Result<Option<String>, AllocError>
     ensures path { IfOk result (λ path. option_map string_bytes path ≡ path_in (words_of words.now)) }
     ensures wanted { OnErr result (command_in (words_of words.now) ≢ None) }
@@ -42,6 +43,7 @@ pub fn path_of(alloc: Global, words: &[String]) -> Result<Option<String>, AllocE
 }
 
 /// The path of the folder of these words. That of a command without one is empty.
+#[tactic(auto, using(crate::proofs::NamedRuns::no_folder, crate::proofs::NamedRuns::without_folder, crate::proofs::NamedRuns::folder_named))]
 pub fn folder_of(alloc: Global, words: &[String]) -> Result<String, AllocError>
     ensures folder { IfOk result (λ folder. string_bytes folder ≡ folder_in (words_of words.now)) }
     ensures wanted { OnErr result (command_in (words_of words.now) ≢ None) }
@@ -78,6 +80,7 @@ pub struct Ran {
 
 /// Runs these words over the store that they name: a file, or one in memory alone, that is empty. `S`
 /// stands for what the files at the path hold, whatever it is. Without memory for the path nothing is run.
+#[tactic(auto, using(crate::proofs::NamedRuns::some_named, crate::proofs::NamedRuns::none_named))]
 pub fn run_named<S: Start, D: Door, P: Spool, C: Clock>(
     alloc: Global,
     rt: &HostRuntime,
@@ -88,16 +91,16 @@ pub fn run_named<S: Start, D: Door, P: Spool, C: Clock>(
     clock: &mut C,
 ) -> Result<Ran, AllocError>
     ensures status { IfOk result (λ ran. ran.status ≡ exit_status ran.code) }
-    ensures words { IfOk result (λ ran. Is Unlisted (exit_status ran.code) ↔ (command_in (words_of words.now) ≡ None)) }
+    ensures words { IfOk result (λ ran. Is Unlisted ran.status ↔ (command_in (words_of words.now) ≡ None)) }
     // It runs over the file that is at the path of its second word, or over an empty store in memory.
     ensures file { IfOk result (λ ran. IfSome (path_in (words_of words.now)) (λ _. BeginsWithFile (image_at S.Start)
         (λ first. RanWords ⟦<StoreKeeper<MemoryKeeper, FileKeeper<FileStore<FileFrom<S>>, S>> as Keeper>⟧
         ⟦<D as Door>⟧ ⟦<P as Spool>⟧ ⟦<C as Clock>⟧ (store.File first)
-        (world door.old spool.old clock.old) (world door.new spool.new clock.new) (exit_status ran.code) (words_of words.now)))) }
+        (world door.old spool.old clock.old) (world door.new spool.new clock.new) ran.status (words_of words.now)))) }
     ensures memory { IfOk result (λ ran. path_in (words_of words.now) ≡ None → BeginsEmpty
         (λ first. RanWords ⟦<StoreKeeper<MemoryKeeper, FileKeeper<FileStore<FileFrom<S>>, S>> as Keeper>⟧
         ⟦<D as Door>⟧ ⟦<P as Spool>⟧ ⟦<C as Clock>⟧ (store.Memory first)
-        (world door.old spool.old clock.old) (world door.new spool.new clock.new) (exit_status ran.code) (words_of words.now))) }
+        (world door.old spool.old clock.old) (world door.new spool.new clock.new) ran.status (words_of words.now))) }
     ensures wanted { OnErr result (command_in (words_of words.now) ≢ None) }
 {
     let path = path_of(alloc, words)?;

@@ -10,6 +10,7 @@
 # make twice      builds the program once more, in a folder of another name, and compares the two
 # make plants     has the prover refuse the wrong bodies in plants/, of all crates (hours) or of
 #                 CRATES="mud_url mud_base"
+# make planted    edits texts, and builds the program with wrong bodies: a check has to refuse each
 # make fuzz       runs it on inputs that were changed at random, for MINUTES=1 or another number
 # make bench      measures how fast the program is
 # make hostile    measures what the slowest inputs cost
@@ -26,7 +27,7 @@ CRATES ?=
 # that of ./build or the one that the gate left, whichever is newer
 program = $(firstword $(shell ls -t out/mud crates/mud/out/mud 2>/dev/null) out/mud)
 
-.PHONY: build test checks proofs trusted limits memory twice plants fuzz bench hostile install uninstall deb clean
+.PHONY: build test checks proofs trusted limits memory twice plants planted fuzz bench hostile install uninstall deb clean
 build:
 	sh ./build
 
@@ -57,6 +58,9 @@ twice: build
 
 plants:
 	checks/run $(if $(CRATES),$(addprefix wrong-bodies.,$(CRATES)),wrong-bodies)
+
+planted:
+	checks/run planted
 
 fuzz: build
 	fuzz/fuzz -m $(MINUTES)

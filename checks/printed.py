@@ -1,4 +1,5 @@
 """What checks/print prints, as texts."""
+import ast
 import itertools
 import os
 import re
@@ -6,9 +7,9 @@ import re
 from checks import texts
 
 SCRIPTS = ("checks/*", "checks/cases/*", "bench/*", "fuzz/*", "man/make", "packaging/deb")
-# what looks at contrib/, at the package and at a year: counted apart
+# what looks at contrib/, at the package and at a year, and builds programs: counted apart
 APART = """access a_year bridge_rules browser copies day days draft drafting explain explained_verdicts explaining fetch makers package page
-    site two_builds watching year""".split()
+    planted site two_builds watching year""".split()
 PROGRAM = "crates/mud_cli/src/run.rt"
 CALL = "mud_main"
 # the definition that has a case for each command, and the traits of the outside
@@ -93,11 +94,25 @@ def size_said(specs, keys):
     return f"{definitions} definition{'s' * (definitions > 1)}{behind}, {lines} lines, {tokens} tokens"
 
 
+def lines_of(path, names):
+    """How many lines the classes, calls and tables of these names take in a script; without names the whole script."""
+    found, bodies = {}, [("", ast.parse(texts.read(path)).body)] if names else []
+    for front, body in bodies:
+        for one in body:
+            name = front + (ast.unparse(one.targets[0]) if isinstance(one, ast.Assign) else getattr(one, "name", ""))
+            found[name] = one.end_lineno + 1 - min([one.lineno, *(it.lineno for it in getattr(one, "decorator_list", ()))])
+            bodies += [(name + ".", one.body)] if isinstance(one, ast.ClassDef) else []
+    return sum(found[name] for name in names) if names else len(texts.lines(path))
+
+
 def lines():
     """The lines of each script, how many there are in all, and how many of these a shell reads. Tables, pages and forms are none."""
     size = {path: len(texts.lines(path)) for path in texts.files(*SCRIPTS) if path.endswith(".py") or texts.read(path).startswith("#!")}
     apart = [path for path in size if os.path.basename(path).removesuffix(".py") in APART]
+    rows = (line.partition(": ") for line in texts.lines("checks/later.list") if not line.startswith("#"))
+    later = {path: lines_of(path, names.split()) for path, _, names in rows}
     shell = sum(size[path] for path in size if re.match("#!.*sh$", texts.lines(path)[0]))
-    whole = sum(size[path] for path in size if path not in apart)
-    rows = [f"{size[path]:5} {path}{'  apart' if path in apart else ''}" for path in sorted(size, key=lambda path: -size[path])]
-    return "\n".join([*rows, f"{whole} lines, {shell} of them of a shell; {sum(size[path] for path in apart)} apart"])
+    whole = sum(size[path] - later.get(path, 0) for path in size if path not in apart)
+    rows = [f"{size[path]:5} {path}" + "  apart" * (path in apart) + f"  {later.get(path)} later" * (path in later)
+            for path in sorted(size, key=lambda path: -size[path])]
+    return "\n".join([*rows, f"{whole} lines, {shell} of them of a shell; {sum(later.values())} later and {sum(size[path] for path in apart)} apart"])

@@ -237,6 +237,22 @@ def look(reader, status, octets):
     READERS[reader](status, octets)
 
 
+# what standard error is told of a capture that can't be read, by the fault in its last line
+TOLD = {"LinkType": r"the capture is of link \d+(?: \([^)\n]+\))?, and not of Ethernet: [^\n]+"
+                    r"|the capture says that check sequences follow its frames: [^\n]+"
+                    r"|the packet at that octet came by an interface of another link than Ethernet; [^\n]+",
+        "Magic": r"the input is packed by (?:gzip|zstd): [^\n]+|the section of the capture at that octet is damaged"
+                 r"|the input is no capture in the classic format or in pcapng; [^\n]+"}
+
+
+def told(reader, octets, errors):
+    """Raises Wrong where standard error isn't told what belongs to the last line, and nothing else."""
+    fault = re.search(r"(?:\A|\n)fault (\w+)[^\n]*\n\Z", octets.decode("utf-8", "replace"))
+    form = TOLD.get(fault[1]) if fault and reader in ("frames", "judge", "snoop", "tally") else None
+    if not re.fullmatch(f"mud: (?:{form})\n" if form else "", errors.decode("utf-8", "replace")):
+        raise Wrong(f"on standard error: {errors[:300]}")
+
+
 def frame_line(frame):
     """What the second reading says of a frame."""
     try:

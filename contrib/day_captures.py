@@ -89,11 +89,12 @@ class Captures:
     def read(self):
         """Reads the files that have packets of the two days."""
         chosen = self.chosen()
+        # of each interface the last file may be under way
+        last = {interface_of(path): path for _, path in chosen}
         for at, (first, path) in enumerate(chosen, 1):
             self.show("reading the captures", f"{at} of {len(chosen)}, of {clock(first)}", at / len(chosen))
-            is_last = at == len(chosen)
             try:
-                self.take(path, is_last)
+                self.take(path, path in last.values())
             except (OSError, captures.Unread) as failure:
                 self.remarks.append(f"{path} is left out: {failure}")
         if not any(piece.last >= self.start and piece.first < self.end for piece in self.pieces):
@@ -111,9 +112,16 @@ class Captures:
                 self.remarks.append(f"{path} has no whole packet")
             except (OSError, captures.Unread) as failure:
                 self.remarks.append(f"{path} is left out: {failure}")
-        found.sort()
-        after = [second for second, _ in found[1:]] + [self.end]
-        return [row for row, second in zip(found, after) if row[0] < self.end and second >= self.before]
+        # of those that begin alike the longest goes first, as another one may be its beginning
+        found.sort(key=lambda row: (row[0], -size_of(row[1]), row[1]))
+        kept, following, after = [], {}, self.end
+        for second, path in reversed(found):
+            # a file ends where the next one of its interface begins; the last one may go on behind others
+            ends = following.get(interface_of(path)) or max(after, changed(path))
+            if second < self.end and ends >= self.before:
+                kept.append((second, path))
+            following[interface_of(path)] = after = second
+        return kept[::-1]
 
     def take(self, path, is_last):
         """Takes a file in: what is heard in it, and what is wrong with it."""
@@ -130,7 +138,6 @@ class Captures:
                 packets += len(part.seconds)
                 size += part.end
         except captures.Cut:
-            # the last file may be under way
             if not is_last or os.path.getmtime(path) < time.time() - 60:
                 self.remarks.append(f"{path} is cut behind {packets} packet{'' if packets == 1 else 's'}, at {clock(last)}")
         except captures.Unread as failure:
@@ -194,6 +201,27 @@ class Captures:
             name, found = captures.answers(message)
             for address, _ in found:
                 self.answers.setdefault((packet.to, name, str(address)), second)
+
+
+def interface_of(path):
+    """The interface, in the name that 'capture' gives."""
+    return path.rpartition("-")[0]
+
+
+def size_of(path):
+    """How many octets a file has, or none where it went."""
+    try:
+        return os.path.getsize(path)
+    except OSError:
+        return 0
+
+
+def changed(path):
+    """The second in which a file was changed last, or 0 where it went."""
+    try:
+        return os.path.getmtime(path)
+    except OSError:
+        return 0
 
 
 def of_interest(frame):
@@ -272,6 +300,8 @@ def parts_of_frames(frames):
 def parts_of(piece):
     """The frames of a piece, by parts."""
     left = piece.packets
+    if not os.path.exists(piece.path):
+        raise Fault(f"{piece.path} went while the day was made")
     for part in parts_in(piece.path):
         yield part.first(left)
         left -= len(part.seconds)

@@ -3,10 +3,14 @@
 It is made beside its place and put there whole. SHA256SUMS is over all of its files and over that of the day before's.
 """
 import contextlib
+import fcntl
+import glob
 import json
 import os
+import re
 import shutil
 import subprocess
+import sys
 import tempfile
 import time
 
@@ -17,7 +21,11 @@ import day_things
 from console import Fault
 
 PLACE = "/var/lib/mud/days"
+DATE = re.compile("[0-9]{4}-[0-9]{2}-[0-9]{2}")
 SUMS, REPORT = "SHA256SUMS", "report.html"
+SUM = re.compile("([0-9a-f]{64})  ([^/]+|[.][.]/[0-9-]+/SHA256SUMS)")
+# what a day's folder is called while another one takes its place
+OLD = ".old"
 REPORTS = ("things", "files", "classes", "locals", "names")
 # what a later run needn't make the same: its own time, and a page that other libraries draw otherwise
 OTHERWISE = {SUMS, REPORT}
@@ -171,7 +179,7 @@ class Folder:
                 "captures": [piece._asdict() for piece in found.pieces], "remarks": found.remarks,
                 "kernel": self.kernel, "states": [{"second": state.second, "words": state.words} for state in self.telling.states],
                 "refused": self.refused, "things": [told.thing(row) for row in listings["things"]], "talks": told.talking(),
-                "announced": {mac: one.second for mac, one in self.telling.announced.items()},
+                "announced": {mac: one.second for mac, one in self.telling.announced.items() if one.second >= found.start},
                 "senders": told.senders(), "waits": list(day_things.waits(listings, self.due, self.files)), "changes": log.rows(),
                 "earlier": self.before}
 
@@ -187,13 +195,16 @@ def kernel_drops(found):
     return sum(rows) if rows else None
 
 
-def earlier(date):
-    """What was denied on days before, by Thing, side, peer or name, protocol and port; and which days these are."""
+def earlier(date, remarks):
+    """What was denied on days before, by Thing, side, peer or name, protocol and port; and which days these are. A day that
+    can't be read is told."""
     days, seen = [], set()
-    for name in sorted(os.listdir(days_folder())):
-        if name < date and os.path.isfile(os.path.join(path_of(name), "day.json")):
-            with open(os.path.join(path_of(name), "day.json"), encoding="utf-8") as file:
-                told = json.load(file)
+    for name in sorted(name for name in os.listdir(days_folder()) if DATE.fullmatch(name) and name < date):
+        try:
+            told = told_of(name)
+        except Fault as fault:
+            remarks.append(f"what was denied on {name} isn't known: {fault}")
+        else:
             days.append(name)
             seen |= {tuple(denial(thing, one)) for thing in told["things"] for one in thing["denied"]}
     return {"days": days, "denied": sorted(map(list, seen))}
@@ -226,19 +237,54 @@ def beside(date):
     folder = None
     try:
         os.makedirs(days_folder(), exist_ok=True)
-        folder = tempfile.mkdtemp(prefix=f".{date}.", dir=days_folder())
-        yield folder
-        os.chmod(folder, 0o750)
-        old = folder + ".old"
-        if os.path.exists(path_of(date)):
-            os.rename(path_of(date), old)
-        os.rename(folder, path_of(date))
-        shutil.rmtree(old, ignore_errors=True)
+        with one_at_a_time():
+            clear(date)
+            folder = tempfile.mkdtemp(prefix=f".{date}.", dir=days_folder())
+            yield folder
+            os.chmod(folder, 0o750)
+            give(folder)
+            old = folder + OLD
+            if os.path.exists(path_of(date)):
+                os.rename(path_of(date), old)
+            os.rename(folder, path_of(date))
+            shutil.rmtree(old, ignore_errors=True)
     except OSError as failure:
         raise Fault(f"the folder of {date} can't be written, and what was there stays: {failure.strerror or failure}") from failure
     finally:
         if folder:
             shutil.rmtree(folder, ignore_errors=True)
+
+
+@contextlib.contextmanager
+def one_at_a_time():
+    """Waits for another 'mud-day' that makes a day."""
+    place = os.open(days_folder(), os.O_RDONLY | os.O_DIRECTORY)
+    try:
+        try:
+            fcntl.flock(place, fcntl.LOCK_EX | fcntl.LOCK_NB)
+        except BlockingIOError:
+            print("mud-day: another one makes a day, and this one waits for it", file=sys.stderr, flush=True)
+            fcntl.flock(place, fcntl.LOCK_EX)
+        yield
+    finally:
+        os.close(place)
+
+
+def clear(date):
+    """Takes away what a run that was killed left of a day; a day that it had put aside goes back."""
+    for path in sorted(glob.glob(os.path.join(glob.escape(days_folder()), f".{date}.*")), reverse=True):
+        if path.endswith(OLD) and not os.path.exists(path_of(date)):
+            os.rename(path, path_of(date))
+        else:
+            shutil.rmtree(path)
+
+
+def give(folder):
+    """Gives a folder that root makes to whom the days are, who else couldn't read it for the next day's."""
+    owner = os.stat(days_folder())
+    if os.geteuid() == 0:
+        for path in [folder, *glob.glob(os.path.join(glob.escape(folder), "*"))]:
+            os.chown(path, owner.st_uid, owner.st_gid)
 
 
 def pieces_of(date):
@@ -252,15 +298,24 @@ def pieces_of(date):
 
 def told_of(date):
     """The object of a day's folder."""
-    with open(os.path.join(path_of(date), "day.json"), encoding="utf-8") as file:
-        return json.load(file)
+    try:
+        with open(os.path.join(path_of(date), "day.json"), encoding="utf-8") as file:
+            told = json.load(file)
+        if not isinstance(told, dict) or "things" not in told:
+            raise ValueError("day.json has no Things")
+        return told
+    except (OSError, ValueError) as failure:
+        raise Fault(f"{path_of(date)} is no folder of a day: {failure}") from failure
 
 
 def broken_sums(date):
     """Which files of a day's folder aren't as SHA256SUMS says."""
     folder = path_of(date)
-    with open(os.path.join(folder, SUMS), encoding="ascii") as file:
-        rows = [line.rstrip("\n").split("  ", 1) for line in file]
+    try:
+        with open(os.path.join(folder, SUMS), encoding="ascii") as file:
+            rows = [SUM.fullmatch(line.rstrip("\n")).groups() for line in file]
+    except (OSError, ValueError, AttributeError) as failure:
+        raise Fault(f"{os.path.join(folder, SUMS)} can't be read: {failure}") from failure
     for sha256, name in rows:
         path = os.path.join(folder, name)
         if not os.path.exists(path):

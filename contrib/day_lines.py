@@ -11,6 +11,7 @@ import contextlib
 import itertools
 import json
 import operator
+import re
 import subprocess
 import threading
 import time
@@ -21,6 +22,9 @@ from console import Fault
 
 # the flags of TCP in which a connection begins: a SYN, and no ACK
 BEGINS = frozenset(b"%d" % flags for flags in range(256) if flags & 2 and not flags & 16)
+# the rulings that may be others where it is known who began: in front of an entry that drops one may stand that asks for
+# it. A hold and a missing file drop whoever began
+BY_BEGINNING = re.compile("drop:(no-match|[0-9]+)")
 # so many rows of what was denied are kept apart, so many peers, senders, and addresses of a sender
 ROWS, ADDRESSES = 20_000, 8
 OTHERS = "others"
@@ -79,7 +83,8 @@ class Judged:
         self.process.stdout.close()
         self.thread.join()
         if self.process.wait() or rest or self.failure:
-            raise Fault(f"'{' '.join(self.words[:2])}' ended with {self.process.returncode}: {rest.decode().strip() or self.failure}")
+            why = rest.decode().strip() or self.failure or "it gave fewer lines than the captures have packets"
+            raise Fault(f"'{' '.join(self.words[:2])}' ended with {self.process.returncode}: {why}")
 
 
 def tails(number, seconds, lines):
@@ -189,7 +194,7 @@ class Form:
                 ends.append({"side": side, "mac": mac, "url": urls[mac], "ruling": ruling, "not-known-yet": is_unknown, **entry_of(mac, side, ruling)})
         self.kind = self.kind_of(words)
         self.is_dropped = words[0] == "drop"
-        self.may_be_begun = self.is_dropped and "drop:no-match" in verdict.decode()
+        self.may_be_begun = any(BY_BEGINNING.fullmatch(ruling) for _, _, ruling in self.counted + self.unknown)
         self.denied = [end for end in self.counted if end[2].startswith("drop")]
         # the sender, where it is no Thing and the packet isn't to one
         self.sender = macs[6:] if self.kind in ("unmanaged", "link") and macs[6:] not in things and len(macs) == 12 else None

@@ -90,6 +90,8 @@ class Telling:
         # nothing is told later than that, as each packet is judged as of the last change at the least
         self.base.requests = [one._replace(moment=min(one.moment, first)) for one in self.base.requests]
         self.known = {row["mac"] for row in copy.listings["things"]}
+        # from this second on the copy doesn't know what was heard: where none was made at the day's beginning, from an earlier one
+        self.since = min(copy.made, found.start)
         self.announced, self.announcements, self.leases = {}, [], []
         self.hear()
         self.things = self.known | set(self.announced)
@@ -107,7 +109,7 @@ class Telling:
             if answer.get("heard") == "lease":
                 self.leases.append((one, answer["address"], answer["mac"]))
             # what was announced before the copy was made is in it
-            elif answer.get("heard") == "url" and answer["result"] != "same" and one.second >= self.found.start:
+            elif answer.get("heard") == "url" and answer["result"] != "same" and one.second >= self.since:
                 self.announcements.append(one)
                 if answer["mac"] not in self.known:
                     self.announced.setdefault(answer["mac"], one)
@@ -126,14 +128,13 @@ class Telling:
 
     def states_of(self):
         """The states of leases, the first from the run's beginning on."""
-        holders = {}
-        for one, address, mac in self.leases:
-            if one.second < self.found.start:
-                holders[address] = mac
+        earlier = [row for row in self.leases if row[0].second < self.found.start]
+        holders = {address: mac for _, address, mac in earlier}
         for row in self.copy.listings["things"]:
             for lease in row["leases"]:
                 if lease["until"] is None or lease["until"] > self.found.start:
                     holders[lease["address"]] = row["mac"]
+        holders.update((address, mac) for one, address, mac in earlier if one.second >= self.since)
         changes, now = {}, dict(holders)
         for one, address, mac in self.leases:
             if self.found.start <= one.second < self.found.end:

@@ -8,6 +8,7 @@ import importlib.machinery
 import importlib.util
 import os
 import re
+import time
 
 import day_captures
 import kept_files
@@ -141,7 +142,10 @@ class Told:
     def hours(self, count):
         """The numbers of each kind, hour by hour."""
         start = self.day.found.start
-        return [{"second": start + at * 3600, "time": day_captures.clock(start + at * 3600)[11:16], **{kind: self.day.hours[at, kind] for kind in KINDS}} for at in range(count)]
+        # where the clocks are changed an hour may come twice
+        form = "%H:%M" if self.day.found.end - start == day_captures.DAY else "%H:%M %Z"
+        return [{"second": second, "time": time.strftime(form, time.localtime(second)), **{kind: self.day.hours[at, kind] for kind in KINDS}}
+                for at, second in enumerate(range(start, start + count * 3600, 3600))]
 
     def rulings(self, mac):
         """How often each ruling was given, by side."""

@@ -19,11 +19,12 @@ WHOLE, DATA, CONNECTIONS, BLOCKS = 116, 40, 40, 500
 EACH = int(os.environ.get("EACH", WHOLE))
 SECONDS, MEGABYTES = 120, 500
 MARK = b"\xde\xad\xbe\xef"
-# the program, which notes the processor's time that it took
+# the program, which notes the processor's time that it and this shell took
 WRAPPED = """#!/usr/bin/env bash
 "{program}" "$@"
 status=$?
-times | tail -n 1 >> "{times}"
+# no pipe: behind one a shell of its own would tell, which ran nothing
+times >> "{times}"
 exit $status
 """
 

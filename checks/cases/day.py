@@ -6,7 +6,9 @@ commands that the folder names), and from what was made. The page is looked at i
 import base64
 import collections
 import contextlib
+import fcntl
 import glob
+import gzip
 import hashlib
 import html.parser
 import json
@@ -21,7 +23,7 @@ from checks import browser, days, program
 from checks.case import ProgramCase, needs, there_is
 from checks.days import AT, CAMERA, CLOUD, DATE, HOUR, HUB, LAPTOP, LAMP, OUTSIDE, PLUG, SENSOR, START, URLS, VIDEO, WEB
 from checks.program import Server, capture, read, run
-from checks.session import acknowledgement
+from checks.session import acknowledgement, announcement
 
 LIBRARIES = "/usr/lib/python3/dist-packages"
 HOLDER = "<b>bert'&\""
@@ -256,6 +258,11 @@ class Made(OfDays):
         """The sums hold, a change is seen, and so is a capture that went."""
         self.note("sha256sum", 0, run("-c", "--quiet", "SHA256SUMS", program="sha256sum", cwd=self.path("days/" + DATE)).status)
         self.note("verify", 0, self.day("--verify", DATE)[0])
+        other = self.put("other", f"#!/bin/sh\nexec '{program.PROGRAM}' \"$@\"\n".encode())
+        os.chmod(other, 0o755)
+        ended = self.day("--verify", DATE, MUD=other)
+        self.note("another program", (1, ["the program isn't that of the day, of which day.json has the SHA-256", "commands comes out otherwise", "day.json comes out otherwise"]),
+                  (ended[0], ended[2].decode().replace("mud-day: ", "").splitlines()))
         with open(self.path(f"days/{DATE}/lines"), "ab") as file:
             file.write(b"\n")
         ended = self.day("--verify", DATE)
@@ -369,7 +376,10 @@ class Classes(OfDays):
 
     def tell_more(self, post):
         # an entry that drops, of the lamp's maker, in place of the lamp's own file
-        dropping = days.usage(URLS[LAMP], ("name", "hub.example.net", 25), forwarding="drop").replace(b"2026-10-01", b"2026-10-02")
+        dropping = json.loads(days.usage(URLS[LAMP], ("name", "hub.example.net", 25), forwarding="drop").replace(b"2026-10-01", b"2026-10-02"))
+        whoever = {"name": "whoever began", "matches": {"ipv4": {"protocol": 6}, "tcp": {"destination-port": {"operator": "eq", "port": 27}}}, "actions": {"forwarding": "drop"}}
+        dropping["ietf-access-control-list:acls"]["acl"][0]["aces"]["ace"].append(whoever)
+        dropping = json.dumps(dropping).encode()
         asking = days.usage(URLS[SENSOR], ("controller", self.hour_class, 37)).replace(b"2026-10-01", b"2026-10-02")
         for mac, octets in ((LAMP, dropping), (SENSOR, asking)):
             days.tell_file(post, URLS[mac], octets, self.path("files"))
@@ -378,6 +388,7 @@ class Classes(OfDays):
         made.packets = []
         made.sent(START + 60, LAMP, HUB, 50300, 25, days.SYN)
         made.sent(START + 61, LAMP, HUB, 50301, 26, days.SYN)
+        made.sent(START + 62, LAMP, HUB, 50302, 27, days.ACK)
 
     def changes(self):
         yield days.log_line(START + 8 * HOUR, "carl", "POST", "/classes", json.dumps({"class": self.hour_class, "address": "192.0.2.9"}))
@@ -391,6 +402,9 @@ class Classes(OfDays):
         self.note("by an entry", [{**end, "ruling": "drop:1", "entry": 1, "acl": "from & list", "ace": '<from "1">'}], rows[0])
         self.note("by none", [{**end, "ruling": "drop:no-match"}], rows[1])
         denied = {one["port"]: one["remedy"] for one in self.thing(LAMP)["denied"]}
+        self.note("of a connection that was begun before", ["drop:2", True], [rows[2][0]["ruling"], json.loads(self.of("dropped.jsonl").splitlines()[2])["begun-before"]])
+        self.note("is apart", [("drop:2", "27", 1)], [(one["ruling"], one["port"], one["packets"]) for one in self.thing(LAMP)["begun"]])
+        self.note("and no denial", {"25": 1, "26": 1}, {one["port"]: one["packets"] for one in self.thing(LAMP)["denied"]})
         self.note("in front of which entry", ("from 1", None), (denied["25"].get("before"), denied["26"].get("before")))
 
     def test_bound(self):
@@ -465,9 +479,26 @@ class Bad(OfDays):
         shutil.copy(self.name(8), self.path("captures/copy.pcap"))
         self.put("captures/other.pcap", capture([(START + 60, bytes(20))], link=113))
         self.put("captures/empty.pcap", b"")
-        self.remarks("is cut behind 2 packets, at 2026-11-30 17:05:00", "the hour is there twice", "this capture isn't of Ethernet")
+        # the first part of an hour, by its name before the whole of it
+        with open(self.name(10), "rb") as file:
+            self.put("captures/a-part.pcap", file.read()[:3000])
+        self.remarks("is cut behind 2 packets, at 2026-11-30 17:05:00", "copy.pcap has what", "a-part.pcap has what", "the hour is there twice", "this capture isn't of Ethernet")
         rows = self.told()["hours"]
-        self.note("the hour that is twice, and the one that is cut", (2, 1), (rows[8]["passed"], rows[17]["passed"]))
+        self.note("the hours that are twice, and the one that is cut", (2, 65, 1), tuple(rows[at]["passed"] for at in (8, 10, 17)))
+
+    def test_interfaces(self):
+        """A file of another interface that goes on behind those of the first one, and the files of both that are under way."""
+        def frame(hour):
+            return START + int(hour * HOUR), days.ethernet(LAPTOP, days.ROUTER, 0x0800, bytes(20))
+        self.put("captures/br0-20261128T223000Z.pcap", capture([frame(-24.5)]))
+        self.put("captures/br1-20261128T220000Z.pcap", capture([frame(-25), frame(6), frame(23.6)])[:-3])
+        with open(self.name(23), "rb+") as file:
+            file.write(capture([frame(23.2), frame(23.5)])[:-3])
+            file.truncate()
+        self.note("status", 0, self.day(DATE)[0])
+        rows = self.told()["hours"]
+        self.note("unmanaged packets of six and of the last hour", (2, 1), (rows[6]["unmanaged"], rows[23]["unmanaged"]))
+        self.note("what is cut", [], [line for line in self.told()["remarks"] if "is cut" in line and "-20261130T160000Z" not in line])
 
     def test_clock(self):
         """A clock that was set back."""
@@ -530,12 +561,116 @@ class Bad(OfDays):
             self.put("captures/br0.pcap", capture(rows))
             shutil.copy(self.path(f"days/copies/{DATE}.requests.gz"), self.path(f"days/copies/{date}.requests.gz"))
             self.note(f"{date}, status", 0, self.day(date)[0])
-            self.note(f"{date}, packets by hour", [1] * hours, [row["unmanaged"] for row in self.told(date)["hours"]])
+            rows = self.told(date)["hours"]
+            self.note(f"{date}, packets by hour", [1] * hours, [row["unmanaged"] for row in rows])
+            two = {23: ["01:00 CET", "03:00 CEST"], 25: ["02:00 CEST", "02:00 CET"]}[hours]
+            at = [row["time"] for row in rows].index(two[0])
+            self.note(f"{date}, where the clocks are changed", two, [row["time"] for row in rows[at:at + 2]])
 
     def test_words(self):
         for words in (["--verify"], ["2026-11-30", "2026-12-01"], ["--nothing"]):
             self.note(" ".join(words), 2, self.day(*words)[0])
         self.holds("no day", self.day("2026-13-01")[0] == 1)
+
+
+class Earlier(OfDays):
+    """Where no copy was made at the day's beginning, but one two days before."""
+
+    def capture_more(self, made):
+        """On the day before the plug came, and the sensor got the address that was the lamp's."""
+        made.packets = []
+        made.dhcp(START - 3 * HOUR, PLUG, announcement(PLUG, URLS[PLUG]))
+        made.dhcp(START - 3 * HOUR + 1, PLUG, acknowledgement(PLUG, AT[PLUG], 7200), True)
+        made.sent(START + HOUR, PLUG, WEB, 50007, 80, days.SYN)
+        made.sent(START + 2 * HOUR, SENSOR, AT[PLUG], 50006, 80, days.SYN, PLUG)
+
+    def test_earlier(self):
+        """What was announced and leased behind the copy counts."""
+        path = self.path(f"days/copies/{DATE}.requests.gz")
+        with gzip.open(path) as file:
+            octets = file.read()
+        os.unlink(path)
+        with open(self.path("days/copies/2026-11-28.requests.gz"), "wb") as whole, gzip.GzipFile(fileobj=whole, mode="wb", mtime=START - 48 * HOUR) as file:
+            file.write(octets)
+        ended = self.day(DATE)
+        self.note("status", 0, ended[0])
+        self.holds("words", b"the day is judged by that of 2026-11-28 00:00:00" in ended[2], ended[2])
+        self.note("verdicts", ["drop from=drop:no-file", "drop from=drop:no-match to=drop:no-file"], [Row(line).verdict for line in self.of("lines").decode().splitlines()])
+        self.note("announced in the day", {}, self.told()["announced"])
+        self.note("not known yet", 0, self.told()["totals"]["unknown"])
+
+
+class Broken(OfDays):
+    """Runs that are stopped in the midst, and what they leave."""
+
+    def capture_more(self, made):
+        made.packets = made.packets[:60]
+
+    def program_that(self, does):
+        """A program that does something in place of 'judge'."""
+        path = self.put("mud-that-stops", f"#!/bin/sh\n[ $1 != judge ] || {{ {does}; }}\nexec '{program.PROGRAM}' \"$@\"\n".encode())
+        os.chmod(path, 0o755)
+        return path
+
+    def test_program(self):
+        """The program is killed in the midst: what stood there stays, and nothing else does."""
+        self.assertEqual(self.day(DATE)[0], 0)
+        sums = self.of("SHA256SUMS")
+        ended = self.day(DATE, MUD=self.program_that("head -c 500 > /dev/null; kill -9 $$"))
+        self.note("status", 1, ended[0])
+        self.holds("words", b"ended with -9" in ended[2] and b"Traceback" not in ended[2], ended[2])
+        self.note("what is there", [DATE, "copies"], sorted(os.listdir(self.path("days"))))
+        self.note("as it was", sums, self.of("SHA256SUMS"))
+
+    def test_stopped(self):
+        """It is told to stop: nothing is left. What a run leaves that was killed goes with the next one."""
+        process = subprocess.Popen(["contrib/mud-day", "--in", self.path("files"), DATE], env={**self.environment, "MUD": self.program_that("exec sleep 3")}, stderr=subprocess.DEVNULL)
+        self.holds("it works", program.until(lambda: glob.glob(self.path("files/mud-day-*/state-1.db")), 20))
+        process.terminate()
+        self.note("status", 1, process.wait())
+        self.note("what is there", ["copies"], os.listdir(self.path("days")))
+        self.note("nor in memory", [], glob.glob(self.path("files/mud-day-*")))
+        for name in (f".{DATE}.one", f".{DATE}.two.old"):
+            os.mkdir(self.path("days/" + name))
+        self.put(f"days/.{DATE}.two.old/mark", b"")
+        self.note("a day that was put aside", 1, self.day(DATE, MUD=self.program_that("exit 7"))[0])
+        self.note("is in its place again", ["mark"], os.listdir(self.path("days/" + DATE)))
+        self.note("the next run", 0, self.day(DATE)[0])
+        self.note("what is there then", [DATE, "copies"], sorted(os.listdir(self.path("days"))))
+
+    def test_two(self):
+        """Two runs wait for each other."""
+        place = os.open(self.path("days"), os.O_RDONLY)
+        fcntl.flock(place, fcntl.LOCK_EX)
+        process = subprocess.Popen(["contrib/mud-day", "--in", self.folder, DATE], env=self.environment, stderr=subprocess.PIPE)
+        self.note("words", b"mud-day: another one makes a day, and this one waits for it\n", process.stderr.readline())
+        self.note("what is there", ["copies"], os.listdir(self.path("days")))
+        os.close(place)
+        self.note("behind it", b"", process.communicate()[1])
+        self.note("status", 0, process.returncode)
+        self.note("what is there then", [DATE, "copies"], sorted(os.listdir(self.path("days"))))
+
+    def test_folders(self):
+        """Folders that are none of a day, or broken ones, are told, and others' aren't taken for days."""
+        for name, octets in (("2026-11-29", b"["), ("2026-11-28.saved", b"{}")):
+            os.mkdir(self.path("days/" + name))
+            self.put(f"days/{name}/day.json", octets)
+        ended = self.day(DATE)
+        self.note("status", 0, ended[0])
+        self.holds("words", b"what was denied on 2026-11-29 isn't known" in ended[2] and b"saved" not in ended[2], ended[2])
+        self.note("days before", [], self.told()["earlier"]["days"])
+        os.unlink(self.path(f"days/{DATE}/SHA256SUMS"))
+        for what, date, words in (("no sums", DATE, b"SHA256SUMS can't be read"), ("no folder", "2026-11-27", b"is no folder of a day"), ("a broken one", "2026-11-29", b"SHA256SUMS can't be read")):
+            ended = self.day("--verify", date)
+            self.holds(what, ended[0] == 1 and b"mud-day: " in ended[2] and b"Traceback" not in ended[2], ended[2])
+
+    @unittest.skipIf(os.geteuid() != 0, "only root gives files away")
+    def test_owner(self):
+        """What root makes is of whom the days are."""
+        os.chown(self.path("days"), 65534, 65534)
+        self.note("status", 0, self.day(DATE)[0])
+        owners = {os.stat(path).st_uid for path in [self.path("days/" + DATE), *glob.glob(self.path(f"days/{DATE}/*"))]}
+        self.note("owner", {65534}, owners)
 
 
 class Page(html.parser.HTMLParser):
@@ -648,6 +783,8 @@ class Capturing(ProgramCase):
         """Files and counts come of an interface; the oldest go."""
         for name, size, ago in (("old.pcap", 10, 20 * 86400), ("large.pcap", 3000, 300), ("new.pcap", 3000, 200)):
             os.utime(self.put(name, bytes(size)), (time.time() - ago,) * 2)
+        # what a machine left that stopped in the midst of a line
+        self.put("lo.kernel", b"\0\0\0\n\n1796221000 5")
         script = 'ip link set lo up; "$@" & sleep 2; for n in 1 2 3; do echo x > /dev/udp/127.0.0.1/9; done; sleep 3; kill $!; wait $!'
         words = ["--net", "bash", "-c", script, "bash", os.path.abspath("contrib/capture"), "--every", "1", "--days", "14", "--gigabytes", "0.000005", "lo"]
         ended = run(*words, program="unshare", env={**os.environ, "MUD_CAPTURES": self.folder})

@@ -224,9 +224,9 @@ class Overnight(Case):
     def reports(self):
         """The reports of a copy of the store's file, as it stands."""
         self.right(["sh", "-c", 'rm -rf /run/look && mkdir /run/look && cp "$1"* /run/look/', "sh", self.path("store.db")])
-        kinds = ("things", "files", "classes", "locals", "names")
-        return [self.right(["mud", "report", "/run/look/store.db", kind], [*self.site.within([]), "env", "PATH=/usr/local/bin:/usr/bin:/bin"]) for kind in kinds] + [
-            self.right(["/usr/local/bin/mud", "export", "/run/look/store.db", MAC])[:40]]
+        words = [["report", "/run/look/store.db", kind] for kind in ("things", "files", "classes", "locals", "names", "due")]
+        words += [["export", "/run/look/store.db", mac] for mac in (MAC, LATE)]
+        return [self.right(["/usr/local/bin/mud", *row]) for row in words]
 
     def evening(self, own):
         """What happens between the units' start and midnight."""

@@ -92,7 +92,8 @@ fn run_over(rt: HostRuntime, words: &[String]) -> io::Result<ExitCode> {
     if ran.status == Status::Refused.number() {
         tell_input(rt, command, door.first.as_slice(), door.last.as_slice());
     }
-    tell_store(rt, command, &path, was_there, ran.status, &ran.behind);
+    let last = door.last.as_slice();
+    tell_store(rt, command, &path, was_there, ran.status, last, &ran.behind);
     Ok(ran.code)
 }
 

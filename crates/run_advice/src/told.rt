@@ -205,13 +205,15 @@ fn tell_link(rt: HostRuntime, link: u32) {
 }
 
 /// Tells what is to be told of the store of a run: why it couldn't be opened, that the run made it, or
-/// that it has no Thing; that its log stays beside it; and that nothing could be learnt.
+/// that it has no Thing; that its log stays beside it; and that nothing could be learnt. Where the last
+/// line that was written says that the input is no capture, that is why no packet was judged.
 pub fn tell_store(
     rt: HostRuntime,
     command: Option<Command>,
     path: &Option<String>,
     was_there: bool,
     status: u8,
+    last: &[u8],
     behind: &Behind,
 ) {
     if let Some(path) = path {
@@ -224,30 +226,14 @@ pub fn tell_store(
                 path.as_str(),
                 ": there was no store here, and an empty one was made",
             );
-        } else if behind.has_no_things {
+        } else if behind.has_no_things && broken_of(last).is_none() {
             tell_of(
                 rt,
                 path.as_str(),
                 " has no Things, so every packet is let through as unmanaged",
             );
         }
-        match behind.unclosed {
-            Some(Unclosed::DiskFull) => {
-                tell_of(
-                    rt,
-                    path.as_str(),
-                    ": its log stays beside it: the disk is full",
-                );
-            }
-            Some(Unclosed::Other) => {
-                tell_of(
-                    rt,
-                    path.as_str(),
-                    ": its log stays beside it: the disk failed",
-                );
-            }
-            None => {}
-        }
+        tell_unclosed(rt, path.as_str(), behind.unclosed);
     }
     if behind.learns_nothing {
         tell(
@@ -255,6 +241,16 @@ pub fn tell_store(
             "no name could be learnt: no address is bound to urn:ietf:params:mud:dns",
         );
     }
+}
+
+/// Tells why the log of a file wasn't copied into it.
+fn tell_unclosed(rt: HostRuntime, path: &str, unclosed: Option<Unclosed>) {
+    let cause = match unclosed {
+        Some(Unclosed::DiskFull) => ": its log stays beside it: the disk is full",
+        Some(Unclosed::Other) => ": its log stays beside it: the disk failed",
+        None => return,
+    };
+    tell_of(rt, path, cause);
 }
 
 /// Whether a command that opened its store asks what it keeps, and isn't meant to make one.

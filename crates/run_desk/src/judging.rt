@@ -30,7 +30,9 @@ pub fn moment_of(packet: &Captured<'_>) -> Moment
 }
 
 /// The verdict on a packet, at its seconds or at the session's moment where that is later, and what
-/// it was read as. Without memory the session stays as it was.
+/// it was read as. Without memory the session stays as it was. It stands where it is called, so that
+/// what was read isn't copied where nobody asks for that.
+#[inline(always)]
 pub fn judge_packet<'a>(state: &mut State, packet: &Captured<'a>) -> Result<JudgedFrame<'a>, Memory>
     ensures frame { IfOk result (λ judged. judged.frame ≡ frame_of packet.now.octets.now) }
     ensures verdict { IfOk result (λ judged. judged.verdict ≡ (judged_packet (session_of state.old) (packet_of packet.now)).verdict) }

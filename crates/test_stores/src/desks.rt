@@ -88,7 +88,7 @@ pub(crate) fn shares_over<K: Keeper>(alloc: Global, keeper: K) -> bool {
     match Desk::open(alloc, keeper, Loaded::new(alloc)) {
         Ok(desk) => {
             let mut desk = desk;
-            shares_rows(alloc, &mut desk) == Ok(true)
+            matches!(shares_rows(alloc, &mut desk), Ok(true))
         }
         Err(_refused) => false,
     }

@@ -1,0 +1,10 @@
+//! Runs of the program over a door, a keeper, a spool and a clock in memory, each proved to end as it
+//! does by the contract of the top call alone.
+#![tactic(auto)]
+
+mod ended;
+mod hear;
+mod words;
+
+pub use ended::Ended;
+pub use hear::hear_no_message;

@@ -1,10 +1,25 @@
--- How a run ends.
-use Rattle.std.specs.Prelude.{◌≡◌, ℕ, ◌⊎◌, List, [], ◌∷◌}
+-- How a run over the forms in memory ends.
+use Rattle.std.specs.Prelude.{◌≡◌, ℕ, false, ◌⊎◌, List, [], ◌∷◌}
+use Rattle.mud_world.specs.declared.clock.Clock as clock
+use Rattle.mud_world.specs.declared.door.Door as door
+use Rattle.mud_world.specs.declared.keeper.Keeper as keeper
+use Rattle.mud_world.specs.declared.spool.Spool as spool
+use Rattle.mud_world.specs.declared.memory_clock.MemoryClock.{MemoryClock}
+use Rattle.mud_world.specs.declared.memory_door.MemoryDoor.{MemoryDoor}
+use Rattle.mud_world.specs.declared.memory_keeper.MemoryKeeper.{MemoryKeeper}
+use Rattle.mud_world.specs.declared.memory_spool.MemorySpool.{MemorySpool}
 use Rattle.mud_world.specs.Door.{outputs}
+use Rattle.mud_world.specs.MemoryClock.{moments_left}
 use Rattle.mud_world.specs.MemoryDoor.{memory_state}
+use Rattle.mud_world.specs.MemoryDoor as new_door
+use Rattle.mud_world.specs.MemoryKeeper as new_keeper
+use Rattle.mud_world.specs.MemorySpool as new_spool
+use Rattle.mud_cli.specs.Runs.{AsTold, Does, World, world}
 use Rattle.run_common.specs.Status.{Is}
 use Rattle.run_common.specs.declared.status.Status.TheVariants.{DoorFailed, NoMemory}
+use Rattle.run_words.specs.Words.{words_of}
 use Rattle.worked_runs.specs.declared.ended.Ended.{Ended}
+use Rattle.worked_runs.specs.declared.ended.Given.{Given}
 
 -- One read or one write of the door failed.
 abbrev pub HasFailed : Ended → Type 0
@@ -16,3 +31,23 @@ EndsWith text status ended =
     Is NoMemory ended.status
     ⊎ ((Is DoorFailed ended.status × HasFailed ended)
     ⊎ ((ended.status ≡ status) × (outputs (memory_state ended.door) ≡ text ∷ [])))
+
+-- A run of these words that reads these pieces, of a folder and a store that are empty.
+pub record ReadsAlone (words pieces : List (List ℕ)) (given : Given) : Type 0 where
+  pub words_are : words_of given.words.items ≡ words
+  pub pieces_are : given.pieces ≡ pieces
+  pub no_files : given.files ≡ []
+  pub no_items : given.items ≡ []
+
+module _ (members : keeper.Ghosts MemoryKeeper) (doors : door.Ghosts MemoryDoor) (spools : spool.Ghosts MemorySpool) (clocks : clock.Ghosts MemoryClock) where
+  -- The program was run over a door, a keeper, a spool and a clock of what it was given, and does what is promised of its command.
+  pub record Ran (given : Given) (ended : Ended) : Type 0 where
+    pub kept : MemoryKeeper
+    pub before : World MemoryDoor MemorySpool MemoryClock
+    pub spool_after : MemorySpool
+    pub clock_after : MemoryClock
+    pub keeper_is : new_keeper.IsNew given.items kept
+    pub door_is : new_door.IsNew (given.pieces ∷ []) 4096 before.door
+    pub spool_is : new_spool.IsNew given.files before.spool
+    pub clock_is : moments_left before.clock ≡ given.moment ∷ []
+    pub does : AsTold (Does members doors spools clocks kept ended.keeper before (world ended.door spool_after clock_after) ended.status) (words_of given.words.items)

@@ -1,23 +1,61 @@
 //! Runs of `hear`.
-ghost use Rattle.std.specs.Prelude.{codes, IfOk};
-ghost use Rattle.worked_runs.specs.Ends.{EndsWith};
+ghost use Rattle.std.specs.Prelude.{◌≡◌, [], ◌∷◌, codes, IfOk};
+ghost use Rattle.worked_runs.specs.Ends.{EndsWith, ReadsAlone};
+ghost use Rattle.worked_runs.specs.Inputs.{lease_pieces};
 
-use crate::ended::Ended;
-use crate::words::{clock_at, door_to, two_words};
-use mud_base::{Listed, Memory, Moment};
-use mud_cli::mud_main;
-use mud_world::{MemoryKeeper, MemorySpool};
+use crate::ended::{Ended, Given, run};
+use crate::words::two_words;
+use mud_base::{Bytes, Listed, Memory, Moment};
 use std::alloc::Global;
+
+/// What a run of `hear dhcp` is given.
+fn hearing_dhcp(alloc: Global, pieces: Listed<Bytes>) -> Result<Given, Memory>
+    ensures { IfOk result (ReadsAlone (codes "hear" ∷ codes "dhcp" ∷ []) pieces) }
+{
+    let words = two_words(alloc, "hear", "dhcp")?;
+    Ok(Given {
+        words,
+        pieces,
+        files: Listed::new(alloc),
+        moment: Moment::at_most_last(1000),
+        items: Listed::new(alloc),
+    })
+}
 
 /// `hear dhcp` of an empty message.
 pub fn hear_no_message(alloc: Global) -> Result<Ended, Memory>
     ensures { IfOk result (EndsWith (codes "fault Cut 0\n") 3) }
 {
-    let words = two_words(alloc, "hear", "dhcp")?;
-    let mut door = door_to(alloc, b"")?;
-    let mut spool = MemorySpool::new(alloc, Listed::new(alloc));
-    let mut clock = clock_at(alloc, Moment::at_most_last(1000))?;
-    let keeper = MemoryKeeper::new(alloc, Listed::new(alloc));
-    let (status, keeper) = mud_main(alloc, &words, keeper, &mut door, &mut spool, &mut clock);
-    Ok(Ended { status, door, keeper })
+    let given = hearing_dhcp(alloc, Listed::new(alloc))?;
+    let ended = run(alloc, given)?;
+    Ok(ended)
+}
+
+/// The front of a server's message to 02:00:00:00:00:01 about the address 192.0.2.10 (RFC 2131, section 2).
+const FRONT: &[u8; 44] = b"\x02\x01\x06\0\0\0\0\x01\0\0\0\0\0\0\0\0\xc0\0\x02\x0a\0\0\0\0\0\0\0\0\x02\0\0\0\0\x01\0\0\0\0\0\0\0\0\0\0";
+
+/// The names of a server and of a file, which say nothing here.
+const NAMES: [u8; 192] = [0; 192];
+
+/// The options of a message that leases the address for a day.
+const LEASES: &[u8; 14] = b"c\x82Sc5\x01\x053\x04\0\x01Q\x80\xff";
+
+/// The message of a lease, in three pieces.
+fn lease_message(alloc: Global) -> Result<Listed<Bytes>, Memory>
+    ensures { IfOk result (λ pieces. pieces ≡ lease_pieces) }
+{
+    let mut pieces = Listed::new(alloc);
+    pieces.push(Bytes::new(alloc, FRONT)?)?;
+    pieces.push(Bytes::new(alloc, &NAMES)?)?;
+    pieces.push(Bytes::new(alloc, LEASES)?)?;
+    Ok(pieces)
+}
+
+/// `hear dhcp` of a message that leases an address.
+pub fn hear_lease(alloc: Global) -> Result<Ended, Memory>
+    ensures { IfOk result (EndsWith (codes "lease 02:00:00:00:00:01 192.0.2.10 86400\n") 0) }
+{
+    let given = hearing_dhcp(alloc, lease_message(alloc)?)?;
+    let ended = run(alloc, given)?;
+    Ok(ended)
 }

@@ -6,5 +6,5 @@ mod ended;
 mod hear;
 mod words;
 
-pub use ended::Ended;
-pub use hear::hear_no_message;
+pub use ended::{Ended, Given};
+pub use hear::{hear_lease, hear_no_message};

@@ -8,15 +8,18 @@ use Rattle.mud_world.specs.declared.memory_clock.MemoryClock.{MemoryClock}
 use Rattle.mud_world.specs.declared.memory_door.MemoryDoor.{MemoryDoor}
 use Rattle.mud_world.specs.declared.memory_keeper.MemoryKeeper.{MemoryKeeper}
 use Rattle.mud_world.specs.declared.memory_spool.MemorySpool.{MemorySpool}
+use Rattle.mud_world.specs.Causes.{Rose}
 use Rattle.mud_world.specs.Door.{outputs}
 use Rattle.mud_world.specs.MemoryClock.{moments_left}
 use Rattle.mud_world.specs.MemoryDoor.{memory_state}
 use Rattle.mud_world.specs.MemoryDoor as new_door
 use Rattle.mud_world.specs.MemoryKeeper as new_keeper
 use Rattle.mud_world.specs.MemorySpool as new_spool
+use Rattle.desk_model.specs.DeskTables.{DeskTables}
+use Rattle.desk_model.specs.Keeping.{KeepsDesk}
 use Rattle.mud_cli.specs.Runs.{AsTold, Does, World, world}
 use Rattle.run_common.specs.Status.{Is}
-use Rattle.run_common.specs.declared.status.Status.TheVariants.{DoorFailed, NoMemory}
+use Rattle.run_common.specs.declared.status.Status.TheVariants.{DoorFailed, NoMemory, KeeperFailed}
 use Rattle.run_words.specs.Words.{words_of}
 use Rattle.worked_runs.specs.declared.ended.Ended.{Ended}
 use Rattle.worked_runs.specs.declared.ended.Given.{Given}
@@ -31,6 +34,14 @@ EndsWith text status ended =
     Is NoMemory ended.status
     ⊎ ((Is DoorFailed ended.status × HasFailed ended)
     ⊎ ((ended.status ≡ status) × (outputs (memory_state ended.door) ≡ text ∷ [])))
+
+-- The same of a run over a store, which keeps this desk then; or the keeper failed.
+abbrev pub EndsOver : DeskTables → List ℕ → ℕ → Ended → Type 0
+EndsOver desk text status ended =
+    Is NoMemory ended.status
+    ⊎ ((Is DoorFailed ended.status × HasFailed ended)
+    ⊎ ((Is KeeperFailed ended.status × Rose 0 ended.keeper.count)
+    ⊎ ((ended.status ≡ status) × ((outputs (memory_state ended.door) ≡ text ∷ []) × KeepsDesk ended.keeper.items.rows desk))))
 
 -- A run of these words that reads these pieces, of a folder and a store that are empty.
 pub record ReadsAlone (words pieces : List (List ℕ)) (given : Given) : Type 0 where

@@ -4,7 +4,9 @@
 
 mod ended;
 mod hear;
+mod report;
 mod words;
 
 pub use ended::{Ended, Given};
 pub use hear::{hear_lease, hear_no_message};
+pub use report::report_no_things;

@@ -14,3 +14,17 @@ pub(crate) fn two_words(alloc: Global, first: &str, second: &str) -> Result<Vec<
     words.push(String::from_str(alloc, second)?)?;
     Ok(words)
 }
+
+/// Three words.
+pub(crate) fn three_words(
+    alloc: Global,
+    first: &str,
+    second: &str,
+    third: &str,
+) -> Result<Vec<String>, Memory>
+    ensures { IfOk result (λ words. words_of words.items ≡ first.now ∷ second.now ∷ third.now ∷ []) }
+{
+    let mut words = two_words(alloc, first, second)?;
+    words.push(String::from_str(alloc, third)?)?;
+    Ok(words)
+}

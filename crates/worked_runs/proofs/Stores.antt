@@ -1,0 +1,92 @@
+-- How a run over a store ends whose items are known, by what its command promises.
+use Rattle.std.proofs.Common.{◌≡◌, ◌⊎◌, inl, inr, Bool, ℕ, ◌+◌, ◌-◌, ◌^◌, List, [], ◌∷◌, Option, Result, Ok, min, sym, ap, ◌∙◌, subst, arith}
+use Rattle.std.specs.List.{AllByRecursion}
+use Rattle.mud_base.specs.Numbers.{IsOctets}
+use Rattle.mud_world.specs.Causes.{Rose, StopsAtFailure}
+use Rattle.mud_world.specs.Door.{DoorState, outputs, put_out}
+use Rattle.mud_world.specs.View.{DoorView}
+use Rattle.mud_world.specs.declared.item.Item.{Item}
+use Rattle.mud_world.specs.declared.keeper.Keeper.{Ghosts}
+use Rattle.mud_world.specs.Kept.{Tells, kept_items, faults_of}
+use Rattle.desk_model.specs.DeskTables.{DeskTables}
+use Rattle.desk_model.specs.Items.{tables_in}
+use Rattle.desk_model.specs.Keeping.{KeepsDesk, KeepsSame, IsFirstBad}
+use Rattle.desk_model.proofs.Keeping.{first_bad_is_answered, not_both, read_kept}
+use Rattle.run_common.specs.Status.{Is, IsOneOf, each_but_refused}
+use Rattle.run_common.specs.declared.status.Status.TheVariants.{Done, Refused, DoorFailed, NoMemory, BadItem, KeeperFailed}
+use Rattle.run_desk.specs.Refused.{ByStore, RefusesStore, WritesBad, each_refusal}
+use Rattle.run_desk.specs.Store.{LeavesStore}
+use Rattle.run_reports.specs.Store.{ReportsStore, WritesTable}
+use Rattle.run_reports.specs.Tables.{table_text}
+use Rattle.run_words.specs.declared.command.ReportKind.{ReportKind}
+use Rattle.worked_runs.proofs.Ends.{pieces_in}
+
+abbrev read_as : DeskTables → Result DeskTables Item
+read_as desk = Ok desk
+
+ok_same : (a b : DeskTables) → read_as a ≡ read_as b → a ≡ b
+ok_same a b e = cc
+
+-- the desk that items keep is the one that is read in them
+pub the_desk : (before after : List Item) (known desk : DeskTables) → tables_in before ≡ Ok known → KeepsSame before after → KeepsDesk after desk → desk ≡ known
+the_desk before after known desk is (inl same) keeps = ok_same desk known (sym (read_kept after desk keeps) ∙ ap tables_in same ∙ is)
+the_desk before after known desk is (inr (other, keeps_before, keeps_after)) keeps =
+    ok_same desk known (sym (read_kept after desk keeps) ∙ read_kept after other keeps_after ∙ sym (read_kept before other keeps_before) ∙ is)
+
+-- a run that was done refuses no store
+pub done_refuses : {status : ℕ} → Is Done status → IsOneOf each_refusal status → ⊥
+done_refuses done (inl failed) = omega (arith, done, failed)
+done_refuses done (inr (inl memory)) = omega (arith, done, memory)
+done_refuses done (inr (inr (inl bad))) = omega (arith, done, bad)
+done_refuses done (inr (inr (inr failed))) = omega (arith, done, failed)
+
+-- how a run ends over a store that keeps this desk
+abbrev pub EndsOver : DeskTables → List ℕ → ℕ → DoorView → ℕ → List Item → ℕ → Type 0
+EndsOver desk text row new status items faults =
+    Is NoMemory status
+    ⊎ ((Is DoorFailed status × ((new.reads ≡ 1) ⊎ (new.writes ≡ 1)))
+    ⊎ ((Is KeeperFailed status × Rose 0 faults)
+    ⊎ ((status ≡ row) × ((outputs new.state ≡ text ∷ []) × KeepsDesk items desk))))
+
+pub rose_from : {before now : ℕ} → before ≡ 0 → Rose before now → Rose 0 now
+rose_from {before} {now} zero rose = subst (λ (n : ℕ). Rose n now) zero rose
+
+pub stopped_once : {failed : Bool} {before now : ℕ} → before ≡ 0 → StopsAtFailure failed before now → now ≡ 1
+stopped_once zero stops = stops.once ∙ ap (λ (n : ℕ). min (n + 1) (2 ^ 64 - 1)) zero
+
+module _ {K : Type 0} (members : Ghosts K) (kept returned : K) (known : DeskTables)
+    (read : tables_in (kept_items members kept) ≡ Ok known) (octets : AllByRecursion (λ item. IsOctets item.body) (kept_items members kept))
+    (told : Tells members kept) (tells : Tells members returned) (fresh : faults_of members kept ≡ 0) where
+
+  pub reports_end : {old new : DoorView} {status : ℕ} {clock_tells : Type 0} {moments : List ℕ} (kind : ReportKind) (pieces : List (List ℕ)) (text : List ℕ)
+      → old.state ≡ pieces_in pieces → old.writes ≡ 0
+      → ((clock : Option ℕ) → table_text kind clock known ≡ text)
+      → ReportsStore members kind (Unit {0}) clock_tells moments kept returned old new status
+      → EndsOver known text 0 new status (kept_items members returned) (faults_of members returned)
+  reports_end {old} {new} {status} {clock_tells} {moments} kind pieces text is writes said run = by run.honest.statuses
+    where
+      items : List Item
+      items = kept_items members returned
+      written : (desk : DeskTables) → desk ≡ known → WritesTable kind clock_tells moments old.state new.state status desk → Is Done status → outputs new.state ≡ text ∷ []
+      written desk same table done =
+          ap outputs (table.done done
+          ∙ ap (λ (d : DeskTables). put_out (table_text kind table.clock d) old.state) same
+          ∙ ap (λ (t : List ℕ). put_out t old.state) (said table.clock)
+          ∙ ap (put_out text) is)
+      done_by : Is Done status → ByStore items (WritesTable kind clock_tells moments old.state new.state status) (RefusesStore items old.state new.state status) → EndsOver known text 0 new status items (faults_of members returned)
+      done_by done (inl (desk, keeps, table)) =
+          let same = the_desk (kept_items members kept) items known desk read (run.leaves.same told tells) keeps in
+          inr (inr (inr (done, (written desk same table done, subst (KeepsDesk items) same keeps))))
+      done_by done (inr refuses) = absurd (done_refuses done refuses.statuses)
+      bad_by : Is BadItem status → ByStore items (WritesTable kind clock_tells moments old.state new.state status) (RefusesStore items old.state new.state status) → ⊥
+      bad_by bad (inl (desk, keeps, table)) = table.good bad
+      bad_by bad (inr refuses) =
+          let it = refuses.done bad in
+          let first = subst (λ (list : List Item). IsFirstBad list it.item) (run.leaves.same_items bad told tells) it.bad in
+          not_both known it.item (sym read ∙ first_bad_is_answered (kept_items members kept) it.item octets first)
+      by : IsOneOf each_but_refused status → EndsOver known text 0 new status items (faults_of members returned)
+      by (inl done) = done_by done (run.writes tt tells)
+      by (inr (inl failed)) = inr (inl (failed, inr (stopped_once writes (run.honest.fault failed))))
+      by (inr (inr (inl memory))) = inl memory
+      by (inr (inr (inr (inl bad)))) = absurd (bad_by bad (run.writes tt tells))
+      by (inr (inr (inr (inr failed)))) = inr (inr (inl (failed, rose_from fresh (run.honest.keeper_fault failed))))

@@ -9,15 +9,25 @@ use Rattle.mud_cli.specs.Hear.Lines.{heard_line, fault_line}
 use Rattle.text_values.specs.Faults.{url_part}
 use Rattle.text_values.specs.Numbers.{number_text, offset_text}
 use Rattle.dhcp_lldp.specs.Heard.{name_of, offset_of, url_fault_of}
-use Rattle.run_words.specs.declared.command.Command.TheVariants.{Hear, Report}
+use Rattle.run_words.specs.declared.command.Command.TheVariants.{Hear, Frames, Judge, Tally, Report}
 use Rattle.run_words.specs.declared.command.Message.TheVariants.{Dhcp, Lldp}
 use Rattle.run_words.specs.declared.command.ReportKind.TheVariants.{Things}
 use Rattle.desk_model.specs.DeskTables.{empty_desk}
 use Rattle.desk_model.specs.Items.{none_kept, desk_of, tables_in}
 use Rattle.table_model.specs.TakenItems.{no_binds}
 use Rattle.run_reports.specs.Tables.{table_text}
+use Rattle.pcap_read.proofs.OnLiterals.{captures_on_literals}
+use Rattle.run_captures.specs.Captures.{is_next}
+use Rattle.run_desk.specs.Store.{judged_output}
+use Rattle.desk_model.specs.Sessions.{opened}
+use Rattle.drop_ledger.specs.Counted.{count_rows, first_rows, late_rows}
+use Rattle.drop_ledger.specs.Ledger.{denials}
+use Rattle.drop_ledger.specs.Seen.{rulings, totals_in}
+use Rattle.run_packets.specs.Tally.Store.{output_of_tally}
+use Rattle.run_packets.specs.Tally.Tallied.{seen_in, hours, ending_of, tally_text}
+use Rattle.run_packets.specs.Tally.Texts.{total_text, totals_line, end_lines}
 use Rattle.run_words.specs.Words.{begins_with_dash, is_path, count_in, kind_in, line_in, command_in}
-use Rattle.worked_runs.specs.Inputs.{lease_pieces}
+use Rattle.worked_runs.specs.Inputs.{empty_capture, lease_pieces}
 use Rattle.worked_runs.proofs.Ends.{pieces_in}
 
 unfoldable pub lines_on_literals : ⊤
@@ -51,3 +61,28 @@ no_items = refl
 pub no_things : (clock : Option ℕ) → table_text Things clock empty_desk ≡ []
 unfolding table_text empty_desk
 no_things clock = refl
+
+pub frames : command_in (codes "frames" ∷ []) ≡ Some Frames
+unfolding lines_on_literals
+frames = refl
+
+pub judge : command_in (codes "judge" ∷ codes "store.db" ∷ []) ≡ Some Judge
+unfolding lines_on_literals
+judge = refl
+
+pub tally : command_in (codes "tally" ∷ codes "store.db" ∷ []) ≡ Some Tally
+unfolding lines_on_literals
+tally = refl
+
+pub no_frames : output_of Frames (pieces_in empty_capture).left ≡ record { text = []; status = 0 }
+unfolding captures_on_literals is_next
+no_frames = refl
+
+pub no_verdicts : judged_output empty_desk (pieces_in empty_capture).left ≡ record { text = []; status = 0 }
+unfolding captures_on_literals is_next
+no_verdicts = refl
+
+pub no_totals : output_of_tally (opened empty_desk) (pieces_in empty_capture).left
+    ≡ record { text = codes "packets 0 unmanaged 0 link 0 unreadable 0 pass 0 drop 0 both 0\n"; status = 0 }
+unfolding texts_on_literals captures_on_literals number_text is_next seen_in hours ending_of tally_text total_text totals_line end_lines rulings totals_in first_rows late_rows count_rows denials
+no_totals = refl

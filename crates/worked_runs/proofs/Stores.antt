@@ -12,14 +12,17 @@ use Rattle.desk_model.specs.DeskTables.{DeskTables}
 use Rattle.desk_model.specs.Items.{tables_in}
 use Rattle.desk_model.specs.Keeping.{KeepsDesk, KeepsSame, IsFirstBad}
 use Rattle.desk_model.proofs.Keeping.{first_bad_is_answered, not_both, read_kept}
-use Rattle.run_common.specs.Status.{Is, IsOneOf, each_but_refused}
+use Rattle.run_common.specs.Status.{Is, IsOneOf, each_but_refused, each_status}
 use Rattle.run_common.specs.declared.status.Status.TheVariants.{Done, Refused, DoorFailed, NoMemory, BadItem, KeeperFailed}
 use Rattle.run_desk.specs.Refused.{ByStore, RefusesStore, WritesBad, each_refusal}
-use Rattle.run_desk.specs.Store.{LeavesStore}
+use Rattle.read_buffer.specs.Packets.{Packet}
+use Rattle.run_captures.specs.Fold.{LineStep}
+use Rattle.run_common.specs.Output.{Output}
+use Rattle.run_desk.specs.Store.{LeavesStore, ReadsByStore, WritesByTables}
 use Rattle.run_reports.specs.Store.{ReportsStore, WritesTable}
 use Rattle.run_reports.specs.Tables.{table_text}
 use Rattle.run_words.specs.declared.command.ReportKind.{ReportKind}
-use Rattle.worked_runs.proofs.Ends.{pieces_in}
+use Rattle.worked_runs.proofs.Ends.{failed_once, pieces_in, written_out}
 
 abbrev read_as : DeskTables → Result DeskTables Item
 read_as desk = Ok desk
@@ -39,6 +42,17 @@ done_refuses done (inl failed) = omega (arith, done, failed)
 done_refuses done (inr (inl memory)) = omega (arith, done, memory)
 done_refuses done (inr (inr (inl bad))) = omega (arith, done, bad)
 done_refuses done (inr (inr (inr failed))) = omega (arith, done, failed)
+
+-- and so does one whose input was refused
+pub refused_refuses : {status : ℕ} → Is Refused status → IsOneOf each_refusal status → ⊥
+refused_refuses refused (inl failed) = omega (arith, refused, failed)
+refused_refuses refused (inr (inl memory)) = omega (arith, refused, memory)
+refused_refuses refused (inr (inr (inl bad))) = omega (arith, refused, bad)
+refused_refuses refused (inr (inr (inr failed))) = omega (arith, refused, failed)
+
+pub ended_refuses : {status : ℕ} → IsOneOf (Done ∷ Refused ∷ []) status → IsOneOf each_refusal status → ⊥
+ended_refuses (inl done) = done_refuses done
+ended_refuses (inr refused) = refused_refuses refused
 
 -- how a run ends over a store that keeps this desk
 abbrev pub EndsOver : DeskTables → List ℕ → ℕ → DoorView → ℕ → List Item → ℕ → Type 0
@@ -90,3 +104,36 @@ module _ {K : Type 0} (members : Ghosts K) (kept returned : K) (known : DeskTabl
       by (inr (inr (inl memory))) = inl memory
       by (inr (inr (inr (inl bad)))) = absurd (bad_by bad (run.writes tt tells))
       by (inr (inr (inr (inr failed)))) = inr (inr (inl (failed, rose_from fresh (run.honest.keeper_fault failed))))
+
+  pub reads_end : {S : Type 0} {step : S → Packet → LineStep S} {from : DeskTables → S} {old new : DoorView} {status : ℕ}
+      (output : DeskTables → List ℕ → Output) (pieces : List (List ℕ)) (text : List ℕ) (row : ℕ)
+      → old.state ≡ pieces_in pieces → old.reads ≡ 0 → old.writes ≡ 0
+      → output known (pieces_in pieces).left ≡ record { text = text; status = row }
+      → ReadsByStore members output step from (Unit {0}) kept returned old new status
+      → EndsOver known text row new status (kept_items members returned) (faults_of members returned)
+  reads_end {S} {step} {from} {old} {new} {status} output pieces text row is reads writes said run = by run.honest.statuses
+    where
+      items : List Item
+      items = kept_items members returned
+      Said : Type 0
+      Said = ByStore items (WritesByTables output step from old new status) (RefusesStore items old.state new.state status × (new.reads ≡ old.reads))
+      done_by : IsOneOf (Done ∷ Refused ∷ []) status → Said → EndsOver known text row new status items (faults_of members returned)
+      done_by done (inl (desk, keeps, table)) =
+          let same = the_desk (kept_items members kept) items known desk read (run.leaves.same told tells) keeps in
+          let left = ap (λ (s : DoorState). output known s.left) is ∙ said in
+          let wrote = written_out pieces text (output desk old.state.left) row is (ap (λ (d : DeskTables). output d old.state.left) same ∙ left) (table.done done) in
+          inr (inr (inr (wrote.0, (wrote.1, subst (KeepsDesk items) same keeps))))
+      done_by done (inr refuses) = absurd (ended_refuses done refuses.0.statuses)
+      bad_by : Is BadItem status → Said → ⊥
+      bad_by bad (inl (desk, keeps, table)) = table.good bad
+      bad_by bad (inr refuses) =
+          let it = refuses.0.done bad in
+          let first = subst (λ (list : List Item). IsFirstBad list it.item) (run.leaves.same_items bad told tells) it.bad in
+          not_both known it.item (sym read ∙ first_bad_is_answered (kept_items members kept) it.item octets first)
+      by : IsOneOf each_status status → EndsOver known text row new status items (faults_of members returned)
+      by (inl done) = done_by (inl done) (run.writes tt tells)
+      by (inr (inl refused)) = done_by (inr refused) (run.writes tt tells)
+      by (inr (inr (inl failed))) = inr (inl (failed, failed_once reads writes (run.honest.fault failed)))
+      by (inr (inr (inr (inl memory)))) = inl memory
+      by (inr (inr (inr (inr (inl bad))))) = absurd (bad_by bad (run.writes tt tells))
+      by (inr (inr (inr (inr (inr failed))))) = inr (inr (inl (failed, rose_from fresh (run.honest.keeper_fault failed))))

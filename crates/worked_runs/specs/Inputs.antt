@@ -8,3 +8,7 @@ lease_pieces =
     ∷ replicate 192 0
     ∷ (99 ∷ 130 ∷ 83 ∷ 99 ∷ 53 ∷ 1 ∷ 5 ∷ 51 ∷ 4 ∷ 0 ∷ 1 ∷ 81 ∷ 128 ∷ 255 ∷ [])
     ∷ []
+
+-- a capture of no packet: the header alone, in microseconds, with the least significant octet first
+abbrev pub empty_capture : List (List ℕ)
+empty_capture = (0xD4 ∷ 0xC3 ∷ 0xB2 ∷ 0xA1 ∷ 2 ∷ 0 ∷ 4 ∷ 0 ∷ 0 ∷ 0 ∷ 0 ∷ 0 ∷ 0 ∷ 0 ∷ 0 ∷ 0 ∷ 0 ∷ 0 ∷ 4 ∷ 0 ∷ 1 ∷ 0 ∷ 0 ∷ 0 ∷ []) ∷ []

@@ -1,32 +1,20 @@
 //! Runs of `hear`.
-ghost use Rattle.std.specs.Prelude.{◌≡◌, [], ◌∷◌, codes, IfOk};
-ghost use Rattle.worked_runs.specs.Ends.{EndsWith, ReadsAlone};
+ghost use Rattle.std.specs.Prelude.{◌≡◌, codes, IfOk};
+ghost use Rattle.worked_runs.specs.Ends.{EndsWith};
 ghost use Rattle.worked_runs.specs.Inputs.{lease_pieces};
 
-use crate::ended::{Ended, Given, run};
+use crate::ended::{Ended, run};
+use crate::given::given_alone;
 use crate::words::two_words;
-use mud_base::{Bytes, Listed, Memory, Moment};
+use mud_base::{Bytes, Listed, Memory};
 use std::alloc::Global;
-
-/// What a run of `hear dhcp` is given.
-fn hearing_dhcp(alloc: Global, pieces: Listed<Bytes>) -> Result<Given, Memory>
-    ensures { IfOk result (ReadsAlone (codes "hear" ∷ codes "dhcp" ∷ []) pieces) }
-{
-    let words = two_words(alloc, "hear", "dhcp")?;
-    Ok(Given {
-        words,
-        pieces,
-        files: Listed::new(alloc),
-        moment: Moment::at_most_last(1000),
-        items: Listed::new(alloc),
-    })
-}
 
 /// `hear dhcp` of an empty message.
 pub fn hear_no_message(alloc: Global) -> Result<Ended, Memory>
     ensures { IfOk result (EndsWith (codes "fault Cut 0\n") 3) }
 {
-    let given = hearing_dhcp(alloc, Listed::new(alloc))?;
+    let words = two_words(alloc, "hear", "dhcp")?;
+    let given = given_alone(alloc, words, Listed::new(alloc));
     let ended = run(alloc, given)?;
     Ok(ended)
 }
@@ -55,7 +43,9 @@ fn lease_message(alloc: Global) -> Result<Listed<Bytes>, Memory>
 pub fn hear_lease(alloc: Global) -> Result<Ended, Memory>
     ensures { IfOk result (EndsWith (codes "lease 02:00:00:00:00:01 192.0.2.10 86400\n") 0) }
 {
-    let given = hearing_dhcp(alloc, lease_message(alloc)?)?;
+    let words = two_words(alloc, "hear", "dhcp")?;
+    let pieces = lease_message(alloc)?;
+    let given = given_alone(alloc, words, pieces);
     let ended = run(alloc, given)?;
     Ok(ended)
 }

@@ -1,3 +1,4 @@
 pub mod Ends
 pub mod Stores
+pub mod Changes
 pub mod Examples

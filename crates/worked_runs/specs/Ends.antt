@@ -4,6 +4,7 @@ use Rattle.mud_world.specs.declared.clock.Clock as clock
 use Rattle.mud_world.specs.declared.door.Door as door
 use Rattle.mud_world.specs.declared.keeper.Keeper as keeper
 use Rattle.mud_world.specs.declared.spool.Spool as spool
+use Rattle.mud_world.specs.declared.item.Item.{Item}
 use Rattle.mud_world.specs.declared.memory_clock.MemoryClock.{MemoryClock}
 use Rattle.mud_world.specs.declared.memory_door.MemoryDoor.{MemoryDoor}
 use Rattle.mud_world.specs.declared.memory_keeper.MemoryKeeper.{MemoryKeeper}
@@ -19,7 +20,7 @@ use Rattle.desk_model.specs.DeskTables.{DeskTables}
 use Rattle.desk_model.specs.Keeping.{KeepsDesk}
 use Rattle.mud_cli.specs.Runs.{AsTold, Does, World, world}
 use Rattle.run_common.specs.Status.{Is}
-use Rattle.run_common.specs.declared.status.Status.TheVariants.{DoorFailed, NoMemory, KeeperFailed}
+use Rattle.run_common.specs.declared.status.Status.TheVariants.{DoorFailed, NoMemory, BadItem, KeeperFailed}
 use Rattle.run_words.specs.Words.{words_of}
 use Rattle.worked_runs.specs.declared.ended.Ended.{Ended}
 use Rattle.worked_runs.specs.declared.ended.Given.{Given}
@@ -35,30 +36,45 @@ EndsWith text status ended =
     ⊎ ((Is DoorFailed ended.status × HasFailed ended)
     ⊎ ((ended.status ≡ status) × (outputs (memory_state ended.door) ≡ text ∷ [])))
 
--- The same of a run over a store, which keeps this desk then; or the keeper failed.
-abbrev pub EndsOver : DeskTables → List ℕ → ℕ → Ended → Type 0
-EndsOver desk text status ended =
+-- The same of a run over a store, which keeps this desk then; or the keeper failed. A call that fails would have been this.
+abbrev pub EndsBy : Type 0 → DeskTables → List ℕ → ℕ → Ended → Type 0
+EndsBy failed desk text status ended =
     Is NoMemory ended.status
-    ⊎ ((Is DoorFailed ended.status × HasFailed ended)
+    ⊎ ((Is DoorFailed ended.status × failed)
     ⊎ ((Is KeeperFailed ended.status × Rose 0 ended.keeper.count)
     ⊎ ((ended.status ≡ status) × ((outputs (memory_state ended.door) ≡ text ∷ []) × KeepsDesk ended.keeper.items.rows desk))))
 
--- A run of these words that reads these pieces, of a folder and a store that are empty.
-pub record ReadsAlone (words pieces : List (List ℕ)) (given : Given) : Type 0 where
+-- of a run that reads or writes the door alone
+abbrev pub EndsOver : DeskTables → List ℕ → ℕ → Ended → Type 0
+EndsOver desk text status ended = EndsBy (HasFailed ended) desk text status ended
+
+-- of one that writes, and reads a folder
+abbrev pub ImportsOver : DeskTables → List ℕ → ℕ → Ended → Type 0
+ImportsOver desk text status ended = EndsBy ((ended.door.write_count ≡ 1) ⊎ (ended.spool.count ≡ 1)) desk text status ended
+
+-- The same of a run over a store with an item that is no record: it is named, and the items stay.
+abbrev pub EndsAtItem : List Item → List ℕ → Ended → Type 0
+EndsAtItem items text ended =
+    Is NoMemory ended.status
+    ⊎ ((Is DoorFailed ended.status × HasFailed ended)
+    ⊎ ((Is KeeperFailed ended.status × Rose 0 ended.keeper.count)
+    ⊎ (Is BadItem ended.status × ((outputs (memory_state ended.door) ≡ text ∷ []) × (ended.keeper.items.rows ≡ items)))))
+
+-- A run of these words that reads these pieces, of an empty folder and a store of these items.
+pub record ReadsOver (items : List Item) (words pieces : List (List ℕ)) (given : Given) : Type 0 where
   pub words_are : words_of given.words.items ≡ words
   pub pieces_are : given.pieces ≡ pieces
   pub no_files : given.files ≡ []
-  pub no_items : given.items ≡ []
+  pub items_are : given.items ≡ items
 
 module _ (members : keeper.Ghosts MemoryKeeper) (doors : door.Ghosts MemoryDoor) (spools : spool.Ghosts MemorySpool) (clocks : clock.Ghosts MemoryClock) where
   -- The program was run over a door, a keeper, a spool and a clock of what it was given, and does what is promised of its command.
   pub record Ran (given : Given) (ended : Ended) : Type 0 where
     pub kept : MemoryKeeper
     pub before : World MemoryDoor MemorySpool MemoryClock
-    pub spool_after : MemorySpool
     pub clock_after : MemoryClock
     pub keeper_is : new_keeper.IsNew given.items kept
     pub door_is : new_door.IsNew (given.pieces ∷ []) 4096 before.door
     pub spool_is : new_spool.IsNew given.files before.spool
     pub clock_is : moments_left before.clock ≡ given.moment ∷ []
-    pub does : AsTold (Does members doors spools clocks kept ended.keeper before (world ended.door spool_after clock_after) ended.status) (words_of given.words.items)
+    pub does : AsTold (Does members doors spools clocks kept ended.keeper before (world ended.door ended.spool clock_after) ended.status) (words_of given.words.items)

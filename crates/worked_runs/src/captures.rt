@@ -41,3 +41,14 @@ pub fn tally_none(alloc: Global) -> Result<Ended, Memory>
     let ended = run(alloc, given)?;
     Ok(ended)
 }
+
+/// `snoop` of a capture of no packet, into a store that holds nothing.
+pub fn snoop_none(alloc: Global) -> Result<Ended, Memory>
+    ensures { IfOk result (EndsOver empty_desk [] 0) }
+{
+    let words = two_words(alloc, "snoop", "store.db")?;
+    let pieces = empty_capture(alloc)?;
+    let given = given_alone(alloc, words, pieces);
+    let ended = run(alloc, given)?;
+    Ok(ended)
+}

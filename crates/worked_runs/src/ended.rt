@@ -25,11 +25,12 @@ pub struct Given {
     pub items: Listed<Item>,
 }
 
-/// What a run came to: its status, and the door and the keeper behind it.
+/// What a run came to: its status, and the door, the spool and the keeper behind it.
 #[derive(Drop)]
 pub struct Ended {
     pub status: u8,
     pub door: MemoryDoor,
+    pub spool: MemorySpool,
     pub keeper: MemoryKeeper,
 }
 
@@ -71,6 +72,7 @@ pub(crate) fn run(alloc: Global, given: Given) -> Result<Ended, Memory>
     Ok(Ended {
         status,
         door,
+        spool,
         keeper,
     })
 }

@@ -1,11 +1,11 @@
-//! Runs of `hear`.
+//! Runs of `hear` and `check`.
 ghost use Rattle.std.specs.Prelude.{◌≡◌, codes, IfOk};
 ghost use Rattle.worked_runs.specs.Ends.{EndsWith};
-ghost use Rattle.worked_runs.specs.Inputs.{lease_pieces};
+ghost use Rattle.worked_runs.specs.Inputs.{bare_frame, lease_pieces};
 
 use crate::ended::{Ended, run};
 use crate::given::given_alone;
-use crate::words::two_words;
+use crate::words::{one_word, two_words};
 use mud_base::{Bytes, Listed, Memory};
 use std::alloc::Global;
 
@@ -46,6 +46,40 @@ pub fn hear_lease(alloc: Global) -> Result<Ended, Memory>
     let words = two_words(alloc, "hear", "dhcp")?;
     let pieces = lease_message(alloc)?;
     let given = given_alone(alloc, words, pieces);
+    let ended = run(alloc, given)?;
+    Ok(ended)
+}
+
+/// A frame without a MUD URL, of the source 02:00:00:00:00:10: its addresses and type, its mandatory
+/// TLVs, and the end (IEEE 802.1AB).
+const FRAME: &[u8; 38] = b"\x01\x80\xc2\0\0\x0e\x02\0\0\0\0\x10\x88\xcc\x02\x07\x04\x02\0\0\0\0\x10\x04\x07\x03\x02\0\0\0\0\x10\x06\x02\0\0\0\0";
+
+/// The octets of that frame, in one piece.
+fn bare_frame(alloc: Global) -> Result<Listed<Bytes>, Memory>
+    ensures { IfOk result (λ pieces. pieces ≡ bare_frame) }
+{
+    let mut pieces = Listed::new(alloc);
+    pieces.push(Bytes::new(alloc, FRAME)?)?;
+    Ok(pieces)
+}
+
+/// `hear lldp` of a frame that announces nothing.
+pub fn hear_frame(alloc: Global) -> Result<Ended, Memory>
+    ensures { IfOk result (EndsWith (codes "nothing\n") 0) }
+{
+    let words = two_words(alloc, "hear", "lldp")?;
+    let pieces = bare_frame(alloc)?;
+    let given = given_alone(alloc, words, pieces);
+    let ended = run(alloc, given)?;
+    Ok(ended)
+}
+
+/// `check` of a file without an octet.
+pub fn check_no_octets(alloc: Global) -> Result<Ended, Memory>
+    ensures { IfOk result (EndsWith (codes "fault Json\n") 3) }
+{
+    let words = one_word(alloc, "check")?;
+    let given = given_alone(alloc, words, Listed::new(alloc));
     let ended = run(alloc, given)?;
     Ok(ended)
 }

@@ -6,10 +6,12 @@ mod captures;
 mod ended;
 mod given;
 mod hear;
+mod import;
 mod report;
 mod words;
 
-pub use captures::{frames_of_none, judge_none, tally_none};
+pub use captures::{frames_of_none, judge_none, snoop_none, tally_none};
 pub use ended::{Ended, Given};
-pub use hear::{hear_lease, hear_no_message};
-pub use report::report_no_things;
+pub use hear::{check_no_octets, hear_frame, hear_lease, hear_no_message};
+pub use import::import_no_file;
+pub use report::{export_no_thing, report_bad_item, report_no_things};

@@ -16,7 +16,7 @@ pub returns : goal.returns
 returns c =
     let given = c.given_alone-given.ensures in
     let ran = c.in_ok-ended.ensures in
-    let none : ran.kept.items.rows ≡ [] = ran.keeper_is.given ∙ given.no_items in
+    let none : ran.kept.items.rows ≡ [] = ran.keeper_is.given ∙ given.items_are in
     reads_end _ ran.kept c.in_ok-ended.ended.keeper empty_desk (ap tables_in none ∙ no_items) (subst (AllByRecursion (λ item. IsOctets item.body)) (sym none) tt) tt tt ran.keeper_is.count
     judged_output empty_capture [] 0 (first_of empty_capture (given.pieces_are ∙ c.in_ok-pieces.ensures) ran.door_is.state) ran.door_is.reads ran.door_is.writes no_verdicts
     (ran.does Judge (named (codes "judge" ∷ codes "store.db" ∷ []) Judge (given.words_are ∙ c.in_ok-words.ensures) judge))

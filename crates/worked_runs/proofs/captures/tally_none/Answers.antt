@@ -17,7 +17,7 @@ pub returns : goal.returns
 returns c =
     let given = c.given_alone-given.ensures in
     let ran = c.in_ok-ended.ensures in
-    let none : ran.kept.items.rows ≡ [] = ran.keeper_is.given ∙ given.no_items in
+    let none : ran.kept.items.rows ≡ [] = ran.keeper_is.given ∙ given.items_are in
     reads_end _ ran.kept c.in_ok-ended.ended.keeper empty_desk (ap tables_in none ∙ no_items) (subst (AllByRecursion (λ item. IsOctets item.body)) (sym none) tt) tt tt ran.keeper_is.count
     (λ tables. output_of_tally (opened tables)) empty_capture (codes "packets 0 unmanaged 0 link 0 unreadable 0 pass 0 drop 0 both 0\n") 0 (first_of empty_capture (given.pieces_are ∙ c.in_ok-pieces.ensures) ran.door_is.state) ran.door_is.reads ran.door_is.writes no_totals
     (ran.does Tally (named (codes "tally" ∷ codes "store.db" ∷ []) Tally (given.words_are ∙ c.in_ok-words.ensures) tally))

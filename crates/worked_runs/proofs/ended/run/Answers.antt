@@ -11,7 +11,6 @@ returns c =
     record {
       kept = c.new-keeper.result;
       before = world c.in_ok-door.door c.new-spool.result c.in_ok-clock.clock;
-      spool_after = run.new.spool;
       clock_after = run.new.clock;
       keeper_is = c.new-keeper.ensures;
       door_is = c.in_ok-door.ensures;

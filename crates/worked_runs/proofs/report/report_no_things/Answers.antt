@@ -15,7 +15,7 @@ pub returns : goal.returns
 returns c =
     let given = c.given_alone-given.ensures in
     let ran = c.in_ok-ended.ensures in
-    let none : ran.kept.items.rows ≡ [] = ran.keeper_is.given ∙ given.no_items in
+    let none : ran.kept.items.rows ≡ [] = ran.keeper_is.given ∙ given.items_are in
     reports_end _ ran.kept c.in_ok-ended.ended.keeper empty_desk (ap tables_in none ∙ no_items) (subst (AllByRecursion (λ item. IsOctets item.body)) (sym none) tt) tt tt ran.keeper_is.count
     Things [] [] (first_of [] (given.pieces_are ∙ c.new.ensures) ran.door_is.state) ran.door_is.writes no_things
     (ran.does (Report Things) (named (codes "report" ∷ codes "store.db" ∷ codes "things" ∷ []) (Report Things) (given.words_are ∙ c.in_ok-words.ensures) report_things)).0

@@ -120,7 +120,7 @@ module _ {K : Type 0} (members : Ghosts K) (kept returned : K) (known : DeskTabl
       bad_by bad (inl (desk, keeps, table)) = table.good bad
       bad_by bad (inr refuses) =
           let it = refuses.done bad in
-          let first = subst (λ (list : List Item). IsFirstBad list it.item) (run.leaves.same_items bad told tells) it.bad in
+          let first = subst (λ (of : List Item). IsFirstBad of it.item) (run.leaves.same_items bad told tells) it.bad in
           not_both known it.item (sym read ∙ first_bad_is_answered (kept_items members kept) it.item octets first)
       by : IsOneOf each_but_refused status → EndsOver known text 0 new status items (faults_of members returned)
       by (inl done) = done_by done (run.writes tt tells)
@@ -152,7 +152,7 @@ module _ {K : Type 0} (members : Ghosts K) (kept returned : K) (known : DeskTabl
       bad_by bad (inl (desk, keeps, table)) = table.good bad
       bad_by bad (inr refuses) =
           let it = refuses.0.done bad in
-          let first = subst (λ (list : List Item). IsFirstBad list it.item) (run.leaves.same_items bad told tells) it.bad in
+          let first = subst (λ (of : List Item). IsFirstBad of it.item) (run.leaves.same_items bad told tells) it.bad in
           not_both known it.item (sym read ∙ first_bad_is_answered (kept_items members kept) it.item octets first)
       by : IsOneOf each_status status → EndsOver known text row new status items (faults_of members returned)
       by (inl done) = done_by (inl done) (run.writes tt tells)
@@ -184,7 +184,7 @@ module _ {K : Type 0} (members : Ghosts K) (kept returned : K) (known : DeskTabl
       bad_by bad (inl (desk, keeps, thing)) = thing.good bad
       bad_by bad (inr refuses) =
           let it = refuses.done bad in
-          let first = subst (λ (list : List Item). IsFirstBad list it.item) (run.leaves.same_items bad told tells) it.bad in
+          let first = subst (λ (of : List Item). IsFirstBad of it.item) (run.leaves.same_items bad told tells) it.bad in
           not_both known it.item (sym read ∙ first_bad_is_answered (kept_items members kept) it.item octets first)
       by : IsOneOf each_status status → EndsOver known text row new status items (faults_of members returned)
       by (inl done) = done_by (inl done) (run.writes tt tells)
@@ -198,12 +198,12 @@ module _ {K : Type 0} (members : Ghosts K) (kept returned : K) (unknown : Item)
     (read : tables_in (kept_items members kept) ≡ Err unknown) (octets : AllByRecursion (λ item. IsOctets item.body) (kept_items members kept))
     (told : Tells members kept) (tells : Tells members returned) (fresh : faults_of members kept ≡ 0) where
 
-  pub reports_item : {old new : DoorView} {status : ℕ} {clock_tells : Type 0} {moments : List ℕ} (kind : ReportKind) (pieces : List (List ℕ)) (text : List ℕ)
-      → old.state ≡ pieces_in pieces → old.writes ≡ 0
+  pub reports_item : {old new : DoorView} {status : ℕ} {clock_tells : Type 0} {moments : List ℕ} (kind : ReportKind) (list : List Item) (pieces : List (List ℕ)) (text : List ℕ)
+      → kept_items members kept ≡ list → old.state ≡ pieces_in pieces → old.writes ≡ 0
       → bad_item_line unknown.kind unknown.key ≡ text
       → ReportsStore members kind (Unit {0}) clock_tells moments kept returned old new status
-      → EndsAtItem (kept_items members kept) text new status (kept_items members returned) (faults_of members returned)
-  reports_item {old} {new} {status} {clock_tells} {moments} kind pieces text is writes said run = by run.honest.statuses
+      → EndsAtItem list text new status (kept_items members returned) (faults_of members returned)
+  reports_item {old} {new} {status} {clock_tells} {moments} kind list pieces text are is writes said run = by run.honest.statuses
     where
       items : List Item
       items = kept_items members returned
@@ -216,12 +216,12 @@ module _ {K : Type 0} (members : Ghosts K) (kept returned : K) (unknown : Item)
       bad_by bad (inl (desk, keeps, table)) = absurd (table.good bad)
       bad_by bad (inr refuses) =
           let it = refuses.done bad in
-          let first = subst (λ (list : List Item). IsFirstBad list it.item) (run.leaves.same_items bad told tells) it.bad in
+          let first = subst (λ (of : List Item). IsFirstBad of it.item) (run.leaves.same_items bad told tells) it.bad in
           let same = err_same it.item unknown (sym (first_bad_is_answered (kept_items members kept) it.item octets first) ∙ read) in
           ap outputs (it.line ∙ ap (λ (i : Item). put_out (bad_item_line i.kind i.key) old.state) same ∙ ap (λ (t : List ℕ). put_out t old.state) said ∙ ap (put_out text) is)
-      by : IsOneOf each_but_refused status → EndsAtItem (kept_items members kept) text new status items (faults_of members returned)
+      by : IsOneOf each_but_refused status → EndsAtItem list text new status items (faults_of members returned)
       by (inl done) = absurd (done_by done (run.writes tt tells))
       by (inr (inl failed)) = inr (inl (failed, inr (stopped_once writes (run.honest.fault failed))))
       by (inr (inr (inl memory))) = inl memory
-      by (inr (inr (inr (inl bad)))) = inr (inr (inr (bad, (bad_by bad (run.writes tt tells), run.leaves.same_items bad told tells))))
+      by (inr (inr (inr (inl bad)))) = inr (inr (inr (bad, (bad_by bad (run.writes tt tells), run.leaves.same_items bad told tells ∙ are))))
       by (inr (inr (inr (inr failed)))) = inr (inr (inl (failed, rose_from fresh (run.honest.keeper_fault failed))))

@@ -17,5 +17,5 @@ returns c =
     let ran = c.in_ok-ended.ensures in
     let none : ran.kept.items.rows ≡ unknown_item ∷ [] = ran.keeper_is.given ∙ (given.items_are ∙ c.in_ok-items.ensures) in
     reports_item _ ran.kept c.in_ok-ended.ended.keeper unknown_item (ap tables_in none ∙ no_record) (subst (AllByRecursion (λ item. IsOctets item.body)) (sym none) (λ i. lit≤ tt, tt)) tt tt ran.keeper_is.count
-    Things [] (codes "fault item 9\n") (first_of [] (given.pieces_are ∙ c.new.ensures) ran.door_is.state) ran.door_is.writes item_line
+    Things (unknown_item ∷ []) [] (codes "fault item 9\n") none (first_of [] (given.pieces_are ∙ c.new.ensures) ran.door_is.state) ran.door_is.writes item_line
     (ran.does (Report Things) (named (codes "report" ∷ codes "store.db" ∷ codes "things" ∷ []) (Report Things) (given.words_are ∙ c.in_ok-words.ensures) report_things)).0

@@ -10,6 +10,8 @@
 # make twice      builds the program once more, in a folder of another name, and compares the two
 # make plants     has the prover refuse the wrong bodies in plants/, of all crates (hours) or of
 #                 CRATES="mud_url mud_base"
+# make score      has the prover try the wrong bodies that the toolchain makes itself, of all crates (hours) or
+#                 of CRATES=..; MAX=400 a crate, in MINUTES=10 each, of functions that contain ONLY=
 # make fuzz       runs it on inputs that were changed at random, for MINUTES=1 or another number
 # make bench      measures how fast the program is
 # make hostile    measures what the slowest inputs cost
@@ -26,7 +28,7 @@ CRATES ?=
 # that of ./build or the one that the gate left, whichever is newer
 program = $(firstword $(shell ls -t out/mud crates/mud/out/mud 2>/dev/null) out/mud)
 
-.PHONY: build test checks proofs trusted limits memory twice plants fuzz bench hostile install uninstall deb clean
+.PHONY: build test checks proofs trusted limits memory twice plants score fuzz bench hostile install uninstall deb clean
 build:
 	sh ./build
 
@@ -57,6 +59,10 @@ twice: build
 
 plants:
 	checks/run $(if $(CRATES),$(addprefix wrong-bodies.,$(CRATES)),wrong-bodies)
+
+score:
+	MAX=$(or $(MAX),400) MINUTES=$(if $(filter command%,$(origin MINUTES)),$(MINUTES),10) ONLY=$(ONLY) \
+		checks/print score $(or $(CRATES),$$(sed -n 's/:.*//p' crates.txt))
 
 fuzz: build
 	fuzz/fuzz -m $(MINUTES)

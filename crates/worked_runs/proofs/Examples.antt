@@ -18,7 +18,7 @@ use Rattle.text_values.specs.Paths.{path_part}
 use Rattle.text_values.specs.Faults.{url_part}
 use Rattle.text_values.specs.Numbers.{number_text, offset_text}
 use Rattle.dhcp_lldp.specs.Heard.{name_of, offset_of, url_fault_of}
-use Rattle.run_words.specs.declared.command.Command.TheVariants.{Hear, Check, Frames, Judge, Snoop, Tally, Import, Report, Export}
+use Rattle.run_words.specs.declared.command.Command.TheVariants.{Hear, Check, Frames, Judge, Snoop, Tally, Import, Report, Export, Drill}
 use Rattle.run_words.specs.declared.command.Message.TheVariants.{Dhcp, Lldp}
 use Rattle.run_words.specs.declared.command.ReportKind.TheVariants.{Things}
 use Rattle.desk_model.specs.DeskTables.{empty_desk}
@@ -143,3 +143,11 @@ import_folder = refl
 pub no_packets : captured_of (pieces_in empty_capture).left ≡ record { all = []; fault = None }
 unfolding captures_on_literals is_next
 no_packets = refl
+
+pub drill_1 : command_in (codes "drill" ∷ codes "1" ∷ []) ≡ Some (Drill 1)
+unfolding lines_on_literals
+drill_1 = refl
+
+pub judge_alone : command_in (codes "judge" ∷ []) ≡ None
+unfolding lines_on_literals
+judge_alone = refl

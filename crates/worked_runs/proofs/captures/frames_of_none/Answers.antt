@@ -1,4 +1,4 @@
-use Rattle.std.proofs.Common.{◌≡◌, ◌∙◌, codes, [], ◌∷◌, ap, subst, sym}
+use Rattle.std.proofs.Common.{◌≡◌, ◌∙◌, codes, [], ◌∷◌, ap, refl, subst, sym}
 use Rattle.run_words.specs.declared.command.Command.TheVariants.{Frames}
 use Rattle.worked_runs.specs.Inputs.{empty_capture}
 use Rattle.worked_runs.proofs.Ends.{first_of, named, promised_ends}

@@ -16,5 +16,7 @@ returns c =
       door_is = c.in_ok-door.ensures;
       spool_is = c.new-spool.ensures;
       clock_is = c.in_ok-clock.ensures;
+      unlisted = λ none. (run.ensures.words).1 (ap (λ (words : List (String Global)). command_in (words_of words)) c.deref.ensures.value ∙ none);
+      untouched = run.ensures.untouched;
       does = λ command named. run.ensures.does command (ap (λ (words : List (String Global)). command_in (words_of words)) c.deref.ensures.value ∙ named);
     }

@@ -1,4 +1,4 @@
-use Rattle.std.proofs.Common.{◌≡◌, ◌∙◌, codes, [], ◌∷◌, ap, subst, sym}
+use Rattle.std.proofs.Common.{◌≡◌, ◌∙◌, codes, [], ◌∷◌, ap, refl, subst, sym}
 use Rattle.run_words.specs.declared.command.Command.TheVariants.{Hear}
 use Rattle.run_words.specs.declared.command.Message.TheVariants.{Dhcp}
 use Rattle.worked_runs.proofs.Ends.{first_of, named, promised_ends}

@@ -1,4 +1,4 @@
-use Rattle.std.proofs.Common.{◌≡◌, ◌∙◌, codes, [], ◌∷◌, ap, subst, sym, lit≤}
+use Rattle.std.proofs.Common.{◌≡◌, ◌∙◌, codes, [], ◌∷◌, ap, refl, subst, sym, lit≤}
 use Rattle.std.specs.List.{AllByRecursion}
 use Rattle.mud_base.specs.Numbers.{IsOctets}
 use Rattle.mud_world.specs.declared.item.Item.{Item}

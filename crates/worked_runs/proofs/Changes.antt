@@ -111,19 +111,18 @@ DrillsOver packets new status now faults =
 module _ {K : Type 0} (members : Ghosts K) (kept returned : K) (known : DeskTables)
     (read : tables_in (kept_items members kept) ≡ Ok known) (octets : AllByRecursion (λ item. IsOctets item.body) (kept_items members kept))
     (told : Tells members kept) (tells : Tells members returned) (fresh : faults_of members kept ≡ 0) where
-
   abbrev pub items : List Item
   items = kept_items members returned
 
   -- a session that is as it was opened leaves the desk that was kept
-  keeps_on : (tables : DeskTables) (session : Session) → IsSound tables → KeepsDesk (kept_items members kept) tables
+  pub keeps_on : (tables : DeskTables) (session : Session) → IsSound tables → KeepsDesk (kept_items members kept) tables
       → items ≡ items_of session.desk → session ≡ opened tables → KeepsDesk items known
   keeps_on tables session sound were are is =
       let desk = ap (λ (s : Session). s.desk) is ∙ opened_desk tables in
       let own = subst (λ (list : List Item). KeepsDesk list tables) (sym (are ∙ ap items_of desk)) (keeps_own tables sound) in
       subst (KeepsDesk items) (ok_same tables known (sym (read_kept (kept_items members kept) tables were) ∙ read)) own
 
-  none_bad : (item : Item) → items ≡ kept_items members kept → IsFirstBad items item → ⊥
+  pub none_bad : (item : Item) → items ≡ kept_items members kept → IsFirstBad items item → ⊥
   none_bad item same bad =
       not_both known item (sym read ∙ first_bad_is_answered (kept_items members kept) item octets (subst (λ (list : List Item). IsFirstBad list item) same bad))
 
@@ -138,20 +137,28 @@ module _ {K : Type 0} (members : Ghosts K) (kept returned : K) (known : DeskTabl
     where
       Runs : Type 0
       Runs = OpensAndImports members kept returned old new status ⊎ ImportsNone members kept returned old new status
+
       Ended : Type 0
       Ended = EndsBy ((new.door.writes ≡ 1) ⊎ (new.spool.faults ≡ 1)) known [] 0 new.door.state status items (faults_of members returned)
+
       done_by : IsOneOf (Done ∷ Refused ∷ []) status → Runs → Ended
       done_by done (inl opens) =
           let all = opens.imports.all (whole done) in
           let none = no_entries all.entries (all.named ∙ ap (λ (fs : List (List ℕ × List ℕ)). in_order (names_of fs)) files ∙ none_in_order) in
           let stays = subst (λ (es : List Entry). Imports old.spool.files (record { session = opened opens.tables; moments = old.moments }) es (record { session = opens.session; moments = new.moments })) none all.run in
-          inr (inr (inr (all.status_is ∙ ap status_of none,
-          (ap outputs (all.wrote ∙ ap (λ (es : List Entry). put_out (lines_of es) old.door.state) none ∙ ap (put_out []) is),
-          keeps_on opens.tables opens.session opens.sound (opens.were_kept told) opens.are_kept (ap (λ (s : Standing). s.session) stays)))))
+          inr (inr (inr (
+            all.status_is ∙ ap status_of none,
+            (
+              ap outputs (all.wrote ∙ ap (λ (es : List Entry). put_out (lines_of es) old.door.state) none ∙ ap (put_out []) is),
+              keeps_on opens.tables opens.session opens.sound (opens.were_kept told) opens.are_kept (ap (λ (s : Standing). s.session) stays),
+            ),
+          )))
       done_by done (inr none) = absurd (ended_refuses done none.refused.refuses.statuses)
+
       bad_by : Is BadItem status → Runs → ⊥
       bad_by bad (inl opens) = not_bad bad opens.imports.statuses
       bad_by bad (inr none) = refused_bad bad none.refused
+
       by : IsOneOf each_status status → Ended
       by (inl done) = done_by (inl done) (run.runs (tt, (tt, tt)) tells)
       by (inr (inl refused)) = done_by (inr refused) (run.runs (tt, (tt, tt)) tells)
@@ -168,28 +175,39 @@ module _ {K : Type 0} (members : Ghosts K) (kept returned : K) (known : DeskTabl
     where
       Runs : Type 0
       Runs = Drills members packets kept returned old new status ⊎ (IsFull members kept returned old new status ⊎ IsRefused members kept returned old.state new.state status)
+
       -- the store holds nothing
       not_full : IsFull members kept returned old new status → ⊥
       not_full full =
           let same = the_desk (kept_items members kept) items known full.full.0 read (full.same told) full.full.1 in
           false≢true (sym full.full.2 ∙ ap holds_nothing (same ∙ nothing) ∙ empty_holds_nothing)
+
       drilled : Drills members packets kept returned old new status → Is Done status → DrillsOver packets new status items (faults_of members returned)
       drilled drills done =
           let all = no_rest drills.ran drills.rest (drill_commands packets) drills.split (drills.all (inl done)) in
-          inr (inr (inr (done, (ap outputs (drills.done done ∙ ap (put_out (drill_text packets)) is),
-          drills.are_kept ∙ ap (λ (ran : List Command). items_of (session_after (opened empty_desk) ran).desk) all))))
+          inr (inr (inr (
+            done,
+            (
+              ap outputs (drills.done done ∙ ap (put_out (drill_text packets)) is),
+              drills.are_kept ∙ ap (λ (ran : List Command). items_of (session_after (opened empty_desk) ran).desk) all,
+            ),
+          )))
+
       done_by : Is Done status → Runs → DrillsOver packets new status items (faults_of members returned)
       done_by done (inl drills) = drilled drills done
       done_by done (inr (inl full)) = absurd (not_full full)
       done_by done (inr (inr refused)) = absurd (ended_refuses (inl done) refused.refuses.statuses)
+
       refused_by : Is Refused status → Runs → ⊥
       refused_by refused (inl drills) = not_refused refused drills.statuses
       refused_by refused (inr (inl full)) = not_full full
       refused_by refused (inr (inr of)) = ended_refuses (inr refused) of.refuses.statuses
+
       bad_by : Is BadItem status → Runs → ⊥
       bad_by bad (inl drills) = not_bad_drill bad drills.statuses
       bad_by bad (inr (inl full)) = not_full full
       bad_by bad (inr (inr of)) = refused_bad bad of
+
       by : IsOneOf each_status status → DrillsOver packets new status items (faults_of members returned)
       by (inl done) = done_by done (run.runs tt tells)
       by (inr (inl refused)) = absurd (refused_by refused (run.runs tt tells))
@@ -207,6 +225,7 @@ module _ {K : Type 0} (members : Ghosts K) (kept returned : K) (known : DeskTabl
     where
       Runs : Type 0
       Runs = OpensAndSnoops members kept returned old new status ⊎ SnoopsNone members kept returned old new status
+
       done_by : IsOneOf (Done ∷ Refused ∷ []) status → Runs → EndsOver known [] 0 new status items (faults_of members returned)
       done_by done (inl opens) =
           let leads = opens.snoops.all (whole done) in
@@ -218,9 +237,11 @@ module _ {K : Type 0} (members : Ghosts K) (kept returned : K) (known : DeskTabl
           let wrote = written_out pieces [] (output_of_entries all.entries all.end) 0 is output all.wrote in
           inr (inr (inr (wrote.0, (wrote.1, keeps_on opens.tables leads.session opens.sound (opens.were_kept told) leads.are_kept stays))))
       done_by done (inr none) = absurd (ended_refuses done none.refused.refuses.statuses)
+
       bad_by : Is BadItem status → Runs → ⊥
       bad_by bad (inl opens) = not_bad bad opens.snoops.statuses
       bad_by bad (inr none) = refused_bad bad none.refused
+
       by : IsOneOf each_status status → EndsOver known [] 0 new status items (faults_of members returned)
       by (inl done) = done_by (inl done) (run.runs tt tells)
       by (inr (inl refused)) = done_by (inr refused) (run.runs tt tells)

@@ -31,9 +31,10 @@ failed_once unread unwritten (inr write) = inr (write.0.once ∙ ap (λ (n : ℕ
 pub written_out : {old new : DoorState} {status : ℕ} (pieces : List (List ℕ)) (text : List ℕ) (output : Output) (row : ℕ)
     → old ≡ pieces_in pieces → output ≡ record { text = text; status = row } → WritesOutput output old new status
     → (status ≡ row) × (outputs new ≡ text ∷ [])
-written_out {old} {new} pieces text output row is said writes =
-    (writes.status_is ∙ ap (λ (o : Output). o.status) said,
-    ap outputs (writes.door_is ∙ ap (λ (o : Output). put_out o.text (with_left new.left old)) said ∙ ap (λ (s : DoorState). put_out text (with_left new.left s)) is))
+written_out {old} {new} pieces text output row is said writes = (
+  writes.status_is ∙ ap (λ (o : Output). o.status) said,
+  ap outputs (writes.door_is ∙ ap (λ (o : Output). put_out o.text (with_left new.left old)) said ∙ ap (λ (s : DoorState). put_out text (with_left new.left s)) is),
+)
 
 pub promised_ends : {old new : DoorView} {status : ℕ} (command : Command) (pieces : List (List ℕ)) (text : List ℕ) (row : ℕ)
     → old.state ≡ pieces_in pieces → old.reads ≡ 0 → old.writes ≡ 0
@@ -43,6 +44,7 @@ promised_ends {old} {new} {status} command pieces text row is reads writes said 
   where
     said_of : output_of command old.state.left ≡ record { text = text; status = row }
     said_of = ap (λ (s : DoorState). output_of command s.left) is ∙ said
+
     by : IsOneOf (Done ∷ Refused ∷ DoorFailed ∷ NoMemory ∷ []) status → Ends text row new status
     by (inl done) = inr (inr (written_out pieces text (output_of command old.state.left) row is said_of (promise.done tt (inl done))))
     by (inr (inl refused)) = inr (inr (written_out pieces text (output_of command old.state.left) row is said_of (promise.done tt (inr refused))))

@@ -18,7 +18,7 @@ use Rattle.text_values.specs.Paths.{path_part}
 use Rattle.text_values.specs.Faults.{url_part}
 use Rattle.text_values.specs.Numbers.{number_text, offset_text}
 use Rattle.dhcp_lldp.specs.Heard.{name_of, offset_of, url_fault_of}
-use Rattle.run_words.specs.declared.command.Command.TheVariants.{Hear, Check, Frames, Judge, Snoop, Tally, Import, Report, Export, Drill}
+use Rattle.run_words.specs.declared.command.Command.TheVariants.{Hear, Check, Frames, Judge, Snoop, Tally, Import, Replay, Report, Export, Drill}
 use Rattle.run_words.specs.declared.command.Message.TheVariants.{Dhcp, Lldp}
 use Rattle.run_words.specs.declared.command.ReportKind.TheVariants.{Things}
 use Rattle.desk_model.specs.DeskTables.{empty_desk}
@@ -151,3 +151,7 @@ drill_1 = refl
 pub judge_alone : command_in (codes "judge" ∷ []) ≡ None
 unfolding lines_on_literals
 judge_alone = refl
+
+pub replay : command_in (codes "replay" ∷ codes "store.db" ∷ []) ≡ Some Replay
+unfolding lines_on_literals
+replay = refl

@@ -95,7 +95,6 @@ stopped_once zero stops = stops.once ∙ ap (λ (n : ℕ). min (n + 1) (2 ^ 64 -
 module _ {K : Type 0} (members : Ghosts K) (kept returned : K) (known : DeskTables)
     (read : tables_in (kept_items members kept) ≡ Ok known) (octets : AllByRecursion (λ item. IsOctets item.body) (kept_items members kept))
     (told : Tells members kept) (tells : Tells members returned) (fresh : faults_of members kept ≡ 0) where
-
   pub reports_end : {old new : DoorView} {status : ℕ} {clock_tells : Type 0} {moments : List ℕ} (kind : ReportKind) (pieces : List (List ℕ)) (text : List ℕ)
       → old.state ≡ pieces_in pieces → old.writes ≡ 0
       → ((clock : Option ℕ) → table_text kind clock known ≡ text)
@@ -105,23 +104,27 @@ module _ {K : Type 0} (members : Ghosts K) (kept returned : K) (known : DeskTabl
     where
       items : List Item
       items = kept_items members returned
+
       written : (desk : DeskTables) → desk ≡ known → WritesTable kind clock_tells moments old.state new.state status desk → Is Done status → outputs new.state ≡ text ∷ []
       written desk same table done =
           ap outputs (table.done done
           ∙ ap (λ (d : DeskTables). put_out (table_text kind table.clock d) old.state) same
           ∙ ap (λ (t : List ℕ). put_out t old.state) (said table.clock)
           ∙ ap (put_out text) is)
+
       done_by : Is Done status → ByStore items (WritesTable kind clock_tells moments old.state new.state status) (RefusesStore items old.state new.state status) → EndsOver known text 0 new status items (faults_of members returned)
       done_by done (inl (desk, keeps, table)) =
           let same = the_desk (kept_items members kept) items known desk read (run.leaves.same told tells) keeps in
           inr (inr (inr (done, (written desk same table done, subst (KeepsDesk items) same keeps))))
       done_by done (inr refuses) = absurd (done_refuses done refuses.statuses)
+
       bad_by : Is BadItem status → ByStore items (WritesTable kind clock_tells moments old.state new.state status) (RefusesStore items old.state new.state status) → ⊥
       bad_by bad (inl (desk, keeps, table)) = table.good bad
       bad_by bad (inr refuses) =
           let it = refuses.done bad in
           let first = subst (λ (of : List Item). IsFirstBad of it.item) (run.leaves.same_items bad told tells) it.bad in
           not_both known it.item (sym read ∙ first_bad_is_answered (kept_items members kept) it.item octets first)
+
       by : IsOneOf each_but_refused status → EndsOver known text 0 new status items (faults_of members returned)
       by (inl done) = done_by done (run.writes tt tells)
       by (inr (inl failed)) = inr (inl (failed, inr (stopped_once writes (run.honest.fault failed))))
@@ -139,8 +142,10 @@ module _ {K : Type 0} (members : Ghosts K) (kept returned : K) (known : DeskTabl
     where
       items : List Item
       items = kept_items members returned
+
       Said : Type 0
       Said = ByStore items (WritesByTables output step from old new status) (RefusesStore items old.state new.state status × (new.reads ≡ old.reads))
+
       done_by : IsOneOf (Done ∷ Refused ∷ []) status → Said → EndsOver known text row new status items (faults_of members returned)
       done_by done (inl (desk, keeps, table)) =
           let same = the_desk (kept_items members kept) items known desk read (run.leaves.same told tells) keeps in
@@ -148,12 +153,14 @@ module _ {K : Type 0} (members : Ghosts K) (kept returned : K) (known : DeskTabl
           let wrote = written_out pieces text (output desk old.state.left) row is (ap (λ (d : DeskTables). output d old.state.left) same ∙ left) (table.done done) in
           inr (inr (inr (wrote.0, (wrote.1, subst (KeepsDesk items) same keeps))))
       done_by done (inr refuses) = absurd (ended_refuses done refuses.0.statuses)
+
       bad_by : Is BadItem status → Said → ⊥
       bad_by bad (inl (desk, keeps, table)) = table.good bad
       bad_by bad (inr refuses) =
           let it = refuses.0.done bad in
           let first = subst (λ (of : List Item). IsFirstBad of it.item) (run.leaves.same_items bad told tells) it.bad in
           not_both known it.item (sym read ∙ first_bad_is_answered (kept_items members kept) it.item octets first)
+
       by : IsOneOf each_status status → EndsOver known text row new status items (faults_of members returned)
       by (inl done) = done_by (inl done) (run.writes tt tells)
       by (inr (inl refused)) = done_by (inr refused) (run.writes tt tells)
@@ -171,21 +178,27 @@ module _ {K : Type 0} (members : Ghosts K) (kept returned : K) (known : DeskTabl
     where
       items : List Item
       items = kept_items members returned
+
       Said : Type 0
       Said = ByStore items (WritesThing mac clock_tells moments old.state new.state status) (RefusesStore items old.state new.state status)
+
       done_by : IsOneOf (Done ∷ Refused ∷ []) status → Said → EndsOver known text row new status items (faults_of members returned)
       done_by done (inl (desk, keeps, thing)) =
           let same = the_desk (kept_items members kept) items known desk read (run.leaves.same told tells) keeps in
           let output = ap (λ (d : DeskTables). export_output mac thing.clock d) same ∙ said thing.clock in
-          inr (inr (inr (thing.lists.status_is done ∙ ap (λ (o : Output). o.status) output,
-          (ap outputs (thing.lists.done done ∙ ap (λ (o : Output). put_out o.text old.state) output ∙ ap (put_out text) is), subst (KeepsDesk items) same keeps))))
+          inr (inr (inr (
+            thing.lists.status_is done ∙ ap (λ (o : Output). o.status) output,
+            (ap outputs (thing.lists.done done ∙ ap (λ (o : Output). put_out o.text old.state) output ∙ ap (put_out text) is), subst (KeepsDesk items) same keeps),
+          )))
       done_by done (inr refuses) = absurd (ended_refuses done refuses.statuses)
+
       bad_by : Is BadItem status → Said → ⊥
       bad_by bad (inl (desk, keeps, thing)) = thing.good bad
       bad_by bad (inr refuses) =
           let it = refuses.done bad in
           let first = subst (λ (of : List Item). IsFirstBad of it.item) (run.leaves.same_items bad told tells) it.bad in
           not_both known it.item (sym read ∙ first_bad_is_answered (kept_items members kept) it.item octets first)
+
       by : IsOneOf each_status status → EndsOver known text row new status items (faults_of members returned)
       by (inl done) = done_by (inl done) (run.writes tt tells)
       by (inr (inl refused)) = done_by (inr refused) (run.writes tt tells)
@@ -197,7 +210,6 @@ module _ {K : Type 0} (members : Ghosts K) (kept returned : K) (known : DeskTabl
 module _ {K : Type 0} (members : Ghosts K) (kept returned : K) (unknown : Item)
     (read : tables_in (kept_items members kept) ≡ Err unknown) (octets : AllByRecursion (λ item. IsOctets item.body) (kept_items members kept))
     (told : Tells members kept) (tells : Tells members returned) (fresh : faults_of members kept ≡ 0) where
-
   pub reports_item : {old new : DoorView} {status : ℕ} {clock_tells : Type 0} {moments : List ℕ} (kind : ReportKind) (list : List Item) (pieces : List (List ℕ)) (text : List ℕ)
       → kept_items members kept ≡ list → old.state ≡ pieces_in pieces → old.writes ≡ 0
       → bad_item_line unknown.kind unknown.key ≡ text
@@ -207,11 +219,14 @@ module _ {K : Type 0} (members : Ghosts K) (kept returned : K) (unknown : Item)
     where
       items : List Item
       items = kept_items members returned
+
       Said : Type 0
       Said = ByStore items (WritesTable kind clock_tells moments old.state new.state status) (RefusesStore items old.state new.state status)
+
       done_by : Is Done status → Said → ⊥
       done_by done (inl (desk, keeps, table)) = keeps_no_desk (kept_items members kept) items unknown desk read (run.leaves.same told tells) keeps
       done_by done (inr refuses) = done_refuses done refuses.statuses
+
       bad_by : Is BadItem status → Said → outputs new.state ≡ text ∷ []
       bad_by bad (inl (desk, keeps, table)) = absurd (table.good bad)
       bad_by bad (inr refuses) =
@@ -219,6 +234,7 @@ module _ {K : Type 0} (members : Ghosts K) (kept returned : K) (unknown : Item)
           let first = subst (λ (of : List Item). IsFirstBad of it.item) (run.leaves.same_items bad told tells) it.bad in
           let same = err_same it.item unknown (sym (first_bad_is_answered (kept_items members kept) it.item octets first) ∙ read) in
           ap outputs (it.line ∙ ap (λ (i : Item). put_out (bad_item_line i.kind i.key) old.state) same ∙ ap (λ (t : List ℕ). put_out t old.state) said ∙ ap (put_out text) is)
+
       by : IsOneOf each_but_refused status → EndsAtItem list text new status items (faults_of members returned)
       by (inl done) = absurd (done_by done (run.writes tt tells))
       by (inr (inl failed)) = inr (inl (failed, inr (stopped_once writes (run.honest.fault failed))))

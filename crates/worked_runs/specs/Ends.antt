@@ -64,7 +64,7 @@ DrillsOver packets ended =
     ⊎ ((Is DoorFailed ended.status × (ended.door.write_count ≡ 1))
     ⊎ ((Is KeeperFailed ended.status × Rose 0 ended.keeper.count)
     ⊎ (Is Done ended.status × ((outputs (memory_state ended.door) ≡ drill_text packets ∷ [])
-        × (ended.keeper.items.rows ≡ items_of (session_after (opened empty_desk) (drill_commands packets)).desk)))))
+    × (ended.keeper.items.rows ≡ items_of (session_after (opened empty_desk) (drill_commands packets)).desk)))))
 
 -- The same of a run over a store with an item that is no record: it is named, and the items stay.
 abbrev pub EndsAtItem : List Item → List ℕ → Ended → Type 0

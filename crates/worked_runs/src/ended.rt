@@ -8,7 +8,9 @@ ghost use Rattle.worked_runs.specs.Ends.{Ran};
 
 use mud_base::{Bytes, Listed, Memory, Moment};
 use mud_cli::mud_main;
-use mud_world::{Clock, Door, Item, Keeper, MemoryClock, MemoryDoor, MemoryKeeper, MemorySpool, Spool};
+use mud_world::{
+    Clock, Door, Item, Keeper, MemoryClock, MemoryDoor, MemoryKeeper, MemorySpool, Spool,
+};
 use std::alloc::Global;
 
 /// The most octets that a run may write to a connection.

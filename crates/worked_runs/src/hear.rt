@@ -20,7 +20,8 @@ pub fn hear_no_message(alloc: Global) -> Result<Ended, Memory>
 }
 
 /// The front of a server's message to 02:00:00:00:00:01 about the address 192.0.2.10 (RFC 2131, section 2).
-const FRONT: &[u8; 44] = b"\x02\x01\x06\0\0\0\0\x01\0\0\0\0\0\0\0\0\xc0\0\x02\x0a\0\0\0\0\0\0\0\0\x02\0\0\0\0\x01\0\0\0\0\0\0\0\0\0\0";
+const FRONT: &[u8; 44] =
+    b"\x02\x01\x06\0\0\0\0\x01\0\0\0\0\0\0\0\0\xc0\0\x02\x0a\0\0\0\0\0\0\0\0\x02\0\0\0\0\x01\0\0\0\0\0\0\0\0\0\0";
 
 /// The names of a server and of a file, which say nothing here.
 const NAMES: [u8; 192] = [0; 192];
@@ -52,7 +53,8 @@ pub fn hear_lease(alloc: Global) -> Result<Ended, Memory>
 
 /// A frame without a MUD URL, of the source 02:00:00:00:00:10: its addresses and type, its mandatory
 /// TLVs, and the end (IEEE 802.1AB).
-const FRAME: &[u8; 38] = b"\x01\x80\xc2\0\0\x0e\x02\0\0\0\0\x10\x88\xcc\x02\x07\x04\x02\0\0\0\0\x10\x04\x07\x03\x02\0\0\0\0\x10\x06\x02\0\0\0\0";
+const FRAME: &[u8; 38] =
+    b"\x01\x80\xc2\0\0\x0e\x02\0\0\0\0\x10\x88\xcc\x02\x07\x04\x02\0\0\0\0\x10\x04\x07\x03\x02\0\0\0\0\x10\x06\x02\0\0\0\0";
 
 /// The octets of that frame, in one piece.
 fn bare_frame(alloc: Global) -> Result<Listed<Bytes>, Memory>

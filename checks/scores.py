@@ -52,8 +52,8 @@ def keep(path, columns, rows):
 def read_plants(said):
     """The counts in what 'rt plant' says, and the bodies that are still proved, each with its place."""
     counts = dict(re.findall(r"(\S+)=(\S+)", next(line for line in said.splitlines() if line.startswith("plants crate="))))
-    bodies = re.findall(r"(?m)^(?:proves|untested|no-ensures) +([^\s:]+:\d+:? \S+?):? (.*)$", said)
-    return counts, [(at, body.replace("\t", " ")) for at, body in bodies]
+    bodies = re.findall(r"(?m)^(?:proves|untested|no-ensures) +(\S+:\d+ [^\s(:]+(?:::[^\s(:]+)*)(.*)$", said)
+    return counts, [(at, body.lstrip(": ").replace("\t", " ")) for at, body in bodies]
 
 
 def score(crate, most="400", minutes="10", only=""):

@@ -32,10 +32,10 @@ use Rattle.desk_model.specs.declared.command.Command.{Command}
 use Rattle.run_drills.specs.Commands.{drill_commands}
 use Rattle.run_drills.specs.Drill.{drill_text, session_after}
 use Rattle.run_drills.specs.Store.{DrillsStore, Drills, IsFull, holds_nothing}
-use Rattle.mud_cli.specs.Import.Entries.{Entry, lines_of, names_of_entries, status_of}
-use Rattle.mud_cli.specs.Import.Imports.{Imports, Standing}
-use Rattle.mud_cli.specs.Import.Order.{in_order}
-use Rattle.mud_cli.specs.Import.Store.{ImportsStore, OpensAndImports, ImportsNone}
+use Rattle.run_changes.specs.Import.Entries.{Entry, lines_of, names_of_entries, status_of}
+use Rattle.run_changes.specs.Import.Imports.{Imports, Standing}
+use Rattle.run_changes.specs.Import.Order.{in_order}
+use Rattle.run_changes.specs.Import.Store.{ImportsStore, OpensAndImports, ImportsNone}
 use Rattle.worked_runs.proofs.Ends.{failed_once, pieces_in, written_out}
 use Rattle.worked_runs.proofs.Stores.{EndsBy, EndsOver, ended_refuses, ok_same, rose_from, stopped_once, the_desk}
 
@@ -136,7 +136,7 @@ module _ {K : Type 0} (members : Ghosts K) (kept returned : K) (known : DeskTabl
   imports_end {old} {new} {status} pieces is writes faults files run = by run.honest.statuses
     where
       Runs : Type 0
-      Runs = OpensAndImports members kept returned old new status ⊎ ImportsNone members kept returned old new status
+      Runs = OpensAndImports members kept returned old new status ⊎ (Tells members returned → ImportsNone members kept returned old new status)
 
       Ended : Type 0
       Ended = EndsBy ((new.door.writes ≡ 1) ⊎ (new.spool.faults ≡ 1)) known [] 0 new.door.state status items (faults_of members returned)
@@ -150,21 +150,21 @@ module _ {K : Type 0} (members : Ghosts K) (kept returned : K) (known : DeskTabl
             all.status_is ∙ ap status_of none,
             (
               ap outputs (all.wrote ∙ ap (λ (es : List Entry). put_out (lines_of es) old.door.state) none ∙ ap (put_out []) is),
-              keeps_on opens.tables opens.session opens.sound (opens.were_kept told) opens.are_kept (ap (λ (s : Standing). s.session) stays),
+              keeps_on opens.tables opens.session opens.sound (opens.were_kept told tells) (opens.are_kept.items tells) (ap (λ (s : Standing). s.session) stays),
             ),
           )))
-      done_by done (inr none) = absurd (ended_refuses done none.refused.refuses.statuses)
+      done_by done (inr none) = absurd (ended_refuses done (none tells).refused.refuses.statuses)
 
       bad_by : Is BadItem status → Runs → ⊥
       bad_by bad (inl opens) = not_bad bad opens.imports.statuses
-      bad_by bad (inr none) = refused_bad bad none.refused
+      bad_by bad (inr none) = refused_bad bad (none tells).refused
 
       by : IsOneOf each_status status → Ended
-      by (inl done) = done_by (inl done) (run.runs (tt, (tt, tt)) tells)
-      by (inr (inl refused)) = done_by (inr refused) (run.runs (tt, (tt, tt)) tells)
+      by (inl done) = done_by (inl done) (run.runs (tt, (tt, tt)))
+      by (inr (inl refused)) = done_by (inr refused) (run.runs (tt, (tt, tt)))
       by (inr (inr (inl failed))) = inr (inl (failed, stopped_by old new writes faults (run.honest.fault failed)))
       by (inr (inr (inr (inl memory)))) = inl memory
-      by (inr (inr (inr (inr (inl bad))))) = absurd (bad_by bad (run.runs (tt, (tt, tt)) tells))
+      by (inr (inr (inr (inr (inl bad))))) = absurd (bad_by bad (run.runs (tt, (tt, tt))))
       by (inr (inr (inr (inr (inr failed))))) = inr (inr (inl (failed, rose_from fresh (run.honest.keeper_fault failed))))
 
   pub drills_end : {old new : DoorView} {status : ℕ} (packets : ℕ) (pieces : List (List ℕ))
@@ -174,7 +174,8 @@ module _ {K : Type 0} (members : Ghosts K) (kept returned : K) (known : DeskTabl
   drills_end {old} {new} {status} packets pieces nothing is writes run = by run.honest.statuses
     where
       Runs : Type 0
-      Runs = Drills members packets kept returned old new status ⊎ (IsFull members kept returned old new status ⊎ IsRefused members kept returned old.state new.state status)
+      Runs = Drills members packets kept returned old new status
+          ⊎ (Tells members returned → IsFull members kept returned old new status ⊎ IsRefused members kept returned old.state new.state status)
 
       -- the store holds nothing
       not_full : IsFull members kept returned old new status → ⊥
@@ -189,31 +190,40 @@ module _ {K : Type 0} (members : Ghosts K) (kept returned : K) (known : DeskTabl
             done,
             (
               ap outputs (drills.done done ∙ ap (put_out (drill_text packets)) is),
-              drills.are_kept ∙ ap (λ (ran : List Command). items_of (session_after (opened empty_desk) ran).desk) all,
+              drills.are_kept.items tells ∙ ap (λ (ran : List Command). items_of (session_after (opened empty_desk) ran).desk) all,
             ),
           )))
 
       done_by : Is Done status → Runs → DrillsOver packets new status items (faults_of members returned)
       done_by done (inl drills) = drilled drills done
-      done_by done (inr (inl full)) = absurd (not_full full)
-      done_by done (inr (inr refused)) = absurd (ended_refuses (inl done) refused.refuses.statuses)
+      done_by done (inr not) = absurd (none (not tells))
+        where
+          none : IsFull members kept returned old new status ⊎ IsRefused members kept returned old.state new.state status → ⊥
+          none (inl full) = not_full full
+          none (inr refused) = ended_refuses (inl done) refused.refuses.statuses
 
       refused_by : Is Refused status → Runs → ⊥
       refused_by refused (inl drills) = not_refused refused drills.statuses
-      refused_by refused (inr (inl full)) = not_full full
-      refused_by refused (inr (inr of)) = ended_refuses (inr refused) of.refuses.statuses
+      refused_by refused (inr not) = none (not tells)
+        where
+          none : IsFull members kept returned old new status ⊎ IsRefused members kept returned old.state new.state status → ⊥
+          none (inl full) = not_full full
+          none (inr of) = ended_refuses (inr refused) of.refuses.statuses
 
       bad_by : Is BadItem status → Runs → ⊥
       bad_by bad (inl drills) = not_bad_drill bad drills.statuses
-      bad_by bad (inr (inl full)) = not_full full
-      bad_by bad (inr (inr of)) = refused_bad bad of
+      bad_by bad (inr not) = none (not tells)
+        where
+          none : IsFull members kept returned old new status ⊎ IsRefused members kept returned old.state new.state status → ⊥
+          none (inl full) = not_full full
+          none (inr of) = refused_bad bad of
 
       by : IsOneOf each_status status → DrillsOver packets new status items (faults_of members returned)
-      by (inl done) = done_by done (run.runs tt tells)
-      by (inr (inl refused)) = absurd (refused_by refused (run.runs tt tells))
+      by (inl done) = done_by done (run.runs tt)
+      by (inr (inl refused)) = absurd (refused_by refused (run.runs tt))
       by (inr (inr (inl failed))) = inr (inl (failed, stopped_once writes (run.honest.fault failed)))
       by (inr (inr (inr (inl memory)))) = inl memory
-      by (inr (inr (inr (inr (inl bad))))) = absurd (bad_by bad (run.runs tt tells))
+      by (inr (inr (inr (inr (inl bad))))) = absurd (bad_by bad (run.runs tt))
       by (inr (inr (inr (inr (inr failed))))) = inr (inr (inl (failed, rose_from fresh (run.honest.keeper_fault failed))))
 
   pub snoops_end : {old new : DoorView} {status : ℕ} (pieces : List (List ℕ))
@@ -224,7 +234,7 @@ module _ {K : Type 0} (members : Ghosts K) (kept returned : K) (known : DeskTabl
   snoops_end {old} {new} {status} pieces is reads writes nothing run = by run.honest.statuses
     where
       Runs : Type 0
-      Runs = OpensAndSnoops members kept returned old new status ⊎ SnoopsNone members kept returned old new status
+      Runs = OpensAndSnoops members kept returned old new status ⊎ (Tells members returned → SnoopsNone members kept returned old new status)
 
       done_by : IsOneOf (Done ∷ Refused ∷ []) status → Runs → EndsOver known [] 0 new status items (faults_of members returned)
       done_by done (inl opens) =
@@ -235,17 +245,17 @@ module _ {K : Type 0} (members : Ghosts K) (kept returned : K) (known : DeskTabl
           let stays = subst (λ (es : List snoop.Entry). Snoops (opened opens.tables) es leads.session) none all.run in
           let output = ap (λ (es : List snoop.Entry). output_of_entries es all.end) none ∙ ap (output_of_entries []) (ap (λ (c : Captures). c.fault) captured) in
           let wrote = written_out pieces [] (output_of_entries all.entries all.end) 0 is output all.wrote in
-          inr (inr (inr (wrote.0, (wrote.1, keeps_on opens.tables leads.session opens.sound (opens.were_kept told) leads.are_kept stays))))
-      done_by done (inr none) = absurd (ended_refuses done none.refused.refuses.statuses)
+          inr (inr (inr (wrote.0, (wrote.1, keeps_on opens.tables leads.session opens.sound (opens.were_kept told tells) (leads.are_kept.items tells) stays))))
+      done_by done (inr none) = absurd (ended_refuses done (none tells).refused.refuses.statuses)
 
       bad_by : Is BadItem status → Runs → ⊥
       bad_by bad (inl opens) = not_bad bad opens.snoops.statuses
-      bad_by bad (inr none) = refused_bad bad none.refused
+      bad_by bad (inr none) = refused_bad bad (none tells).refused
 
       by : IsOneOf each_status status → EndsOver known [] 0 new status items (faults_of members returned)
-      by (inl done) = done_by (inl done) (run.runs tt tells)
-      by (inr (inl refused)) = done_by (inr refused) (run.runs tt tells)
+      by (inl done) = done_by (inl done) (run.runs tt)
+      by (inr (inl refused)) = done_by (inr refused) (run.runs tt)
       by (inr (inr (inl failed))) = inr (inl (failed, failed_once reads writes (run.honest.fault failed)))
       by (inr (inr (inr (inl memory)))) = inl memory
-      by (inr (inr (inr (inr (inl bad))))) = absurd (bad_by bad (run.runs tt tells))
+      by (inr (inr (inr (inr (inl bad))))) = absurd (bad_by bad (run.runs tt))
       by (inr (inr (inr (inr (inr failed))))) = inr (inr (inl (failed, rose_from fresh (run.honest.keeper_fault failed))))

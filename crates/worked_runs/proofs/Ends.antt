@@ -4,7 +4,6 @@ use Rattle.mud_world.specs.Door.{DoorState, outputs, put_out, with_left}
 use Rattle.mud_world.specs.MemoryConnections.{first_state}
 use Rattle.mud_world.specs.Causes.{EndsAtFailure}
 use Rattle.mud_world.specs.View.{DoorView}
-use Rattle.mud_cli.specs.Answers.{output_of}
 use Rattle.mud_cli.specs.Promises.{Promises}
 use Rattle.run_common.specs.Output.{Output, WritesOutput}
 use Rattle.run_common.specs.Status.{Is, IsOneOf}
@@ -36,18 +35,18 @@ written_out {old} {new} pieces text output row is said writes = (
   ap outputs (writes.door_is ∙ ap (λ (o : Output). put_out o.text (with_left new.left old)) said ∙ ap (λ (s : DoorState). put_out text (with_left new.left s)) is),
 )
 
-pub promised_ends : {old new : DoorView} {status : ℕ} (command : Command) (pieces : List (List ℕ)) (text : List ℕ) (row : ℕ)
+pub promised_ends : {old new : DoorView} {status : ℕ} (output : List ℕ → Output) (pieces : List (List ℕ)) (text : List ℕ) (row : ℕ)
     → old.state ≡ pieces_in pieces → old.reads ≡ 0 → old.writes ≡ 0
-    → output_of command (pieces_in pieces).left ≡ record { text = text; status = row }
-    → Promises (Unit {0}) command old new status → Ends text row new status
-promised_ends {old} {new} {status} command pieces text row is reads writes said promise = by promise.statuses
+    → output (pieces_in pieces).left ≡ record { text = text; status = row }
+    → Promises (Unit {0}) output old new status → Ends text row new status
+promised_ends {old} {new} {status} output pieces text row is reads writes said promise = by promise.statuses
   where
-    said_of : output_of command old.state.left ≡ record { text = text; status = row }
-    said_of = ap (λ (s : DoorState). output_of command s.left) is ∙ said
+    said_of : output old.state.left ≡ record { text = text; status = row }
+    said_of = ap (λ (s : DoorState). output s.left) is ∙ said
 
     by : IsOneOf (Done ∷ Refused ∷ DoorFailed ∷ NoMemory ∷ []) status → Ends text row new status
-    by (inl done) = inr (inr (written_out pieces text (output_of command old.state.left) row is said_of (promise.done tt (inl done))))
-    by (inr (inl refused)) = inr (inr (written_out pieces text (output_of command old.state.left) row is said_of (promise.done tt (inr refused))))
+    by (inl done) = inr (inr (written_out pieces text (output old.state.left) row is said_of (promise.done tt (inl done))))
+    by (inr (inl refused)) = inr (inr (written_out pieces text (output old.state.left) row is said_of (promise.done tt (inr refused))))
     by (inr (inr (inl failed))) = inr (inl (failed, failed_once reads writes (promise.fault failed)))
     by (inr (inr (inr memory))) = inl memory
 

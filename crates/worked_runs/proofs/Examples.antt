@@ -11,7 +11,12 @@ use Rattle.mud_base.specs.Reading.{mac_in}
 use Rattle.table_model.specs.Things.{thing_at}
 use Rattle.run_reports.specs.Export.Exported.{export_output}
 use Rattle.run_desk.specs.Refused.{bad_item_line}
-use Rattle.mud_cli.specs.Answers.{answer_to, most_of, output_of}
+use Rattle.mud_cli.specs.Answers.{answer_to, most_of, output_of_input}
+use Rattle.mud_cli.specs.Frames.Lines.{frame_step}
+use Rattle.mud_cli.specs.declared.answer.Input.TheVariants as input
+use Rattle.run_captures.specs.Capture.{output_of_capture}
+use Rattle.run_captures.specs.Fold.{no_ending}
+use Rattle.run_common.specs.Output.{Output}
 use Rattle.mud_cli.specs.Hear.Answer.{hearing, hearing_within}
 use Rattle.mud_cli.specs.Hear.Lines.{heard_line, fault_line}
 use Rattle.text_values.specs.Paths.{path_part}
@@ -51,11 +56,15 @@ pub hear_dhcp : command_in (codes "hear" ∷ codes "dhcp" ∷ []) ≡ Some (Hear
 unfolding lines_on_literals
 hear_dhcp = refl
 
-pub no_message : output_of (Hear Dhcp) (pieces_in []).left ≡ record { text = codes "fault Cut 0\n"; status = 3 }
+-- the output of `frames`
+abbrev pub frames_output : List ℕ → Output
+frames_output = output_of_capture frame_step no_ending tt
+
+pub no_message : output_of_input (input.Message Dhcp) (pieces_in []).left ≡ record { text = codes "fault Cut 0\n"; status = 3 }
 unfolding answers_on_literals
 no_message = refl
 
-pub lease : output_of (Hear Dhcp) (pieces_in lease_pieces).left ≡ record { text = codes "lease 02:00:00:00:00:01 192.0.2.10 86400\n"; status = 0 }
+pub lease : output_of_input (input.Message Dhcp) (pieces_in lease_pieces).left ≡ record { text = codes "lease 02:00:00:00:00:01 192.0.2.10 86400\n"; status = 0 }
 unfolding answers_on_literals
 lease = refl
 
@@ -83,7 +92,7 @@ pub tally : command_in (codes "tally" ∷ codes "store.db" ∷ []) ≡ Some Tall
 unfolding lines_on_literals
 tally = refl
 
-pub no_frames : output_of Frames (pieces_in empty_capture).left ≡ record { text = []; status = 0 }
+pub no_frames : frames_output (pieces_in empty_capture).left ≡ record { text = []; status = 0 }
 unfolding captures_on_literals is_next
 no_frames = refl
 
@@ -112,11 +121,11 @@ pub export_thing : command_in (codes "export" ∷ codes "store.db" ∷ codes "02
 unfolding lines_on_literals mac_in
 export_thing = refl
 
-pub bare : output_of (Hear Lldp) (pieces_in bare_frame).left ≡ record { text = codes "nothing\n"; status = 0 }
+pub bare : output_of_input (input.Message Lldp) (pieces_in bare_frame).left ≡ record { text = codes "nothing\n"; status = 0 }
 unfolding answers_on_literals frames_on_literals
 bare = refl
 
-pub no_octets : output_of Check (pieces_in []).left ≡ record { text = codes "fault Json\n"; status = 3 }
+pub no_octets : output_of_input input.UsageFile (pieces_in []).left ≡ record { text = codes "fault Json\n"; status = 3 }
 unfolding answers_on_literals file_on_literals checking broken_line path_part
 no_octets = refl
 

@@ -20,8 +20,8 @@ use Rattle.http_requests.proofs.Heads.{head_some}
 use Rattle.http_requests.proofs.Readings.{fault_some}
 use Rattle.console.specs.Answers.{fault_answer}
 use Rattle.console.specs.States.{ConsoleState, ConsoleStep, begun}
-use Rattle.mud_cli.specs.Serving.Replay.{ReplaysStore, OpensAndReplays, status_at}
-use Rattle.mud_cli.specs.Serving.Store.{LeavesDesk, ServesNone}
+use Rattle.run_changes.specs.Serving.Replay.{ReplaysStore, OpensAndReplays, status_at}
+use Rattle.run_changes.specs.Serving.Store.{LeavesDesk, ServesNone}
 use Rattle.run_common.specs.Status.{Is, IsOneOf, each_status}
 use Rattle.run_common.specs.declared.status.Status.TheVariants.{Done, Refused, DoorFailed, NoMemory, BadItem, KeeperFailed}
 use Rattle.worked_runs.proofs.Ends.{failed_once, pieces_in}

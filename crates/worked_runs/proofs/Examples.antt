@@ -1,5 +1,5 @@
 -- What the definitions say of each run, computed.
-use Rattle.std.specs.Prelude.{◌≡◌, ⊤, ℕ, Option, [], ◌∷◌, codes, Some, None, Ok, Err, refl}
+use Rattle.std.specs.Prelude.{◌≡◌, ⊤, ℕ, List, Option, [], ◌∷◌, codes, Some, None, Ok, Err, refl}
 use Rattle.mud_base.specs.Decimal.{digits_upto, number_upto}
 use Rattle.mud_base.proofs.OnLiterals.{texts_on_literals}
 use Rattle.dhcp_lldp.proofs.OnLiterals.{frames_on_literals, messages_on_literals}

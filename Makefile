@@ -11,6 +11,8 @@
 # make plants     has the prover refuse the wrong bodies in plants/, of all crates (hours) or of
 #                 CRATES="mud_url mud_base"
 # make planted    edits texts, and builds the program with wrong bodies: a check has to refuse each
+# make score      has the prover try the wrong bodies that the toolchain makes itself, of all crates (hours) or
+#                 of CRATES=..; MAX=400 a crate, in MINUTES=10 each, of functions that contain ONLY=
 # make fuzz       runs it on inputs that were changed at random, for MINUTES=1 or another number
 # make bench      measures how fast the program is
 # make hostile    measures what the slowest inputs cost
@@ -27,7 +29,7 @@ CRATES ?=
 # that of ./build or the one that the gate left, whichever is newer
 program = $(firstword $(shell ls -t out/mud crates/mud/out/mud 2>/dev/null) out/mud)
 
-.PHONY: build test checks proofs trusted limits memory twice plants planted fuzz bench hostile install uninstall deb clean
+.PHONY: build test checks proofs trusted limits memory twice plants planted score fuzz bench hostile install uninstall deb clean
 build:
 	sh ./build
 
@@ -61,6 +63,10 @@ plants:
 
 planted:
 	checks/run planted
+
+score:
+	MAX=$(or $(MAX),400) MINUTES=$(if $(filter command%,$(origin MINUTES)),$(MINUTES),10) ONLY=$(ONLY) \
+		checks/print score $(or $(CRATES),$$(sed -n 's/:.*//p' crates.txt))
 
 fuzz: build
 	fuzz/fuzz -m $(MINUTES)

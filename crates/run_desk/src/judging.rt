@@ -82,8 +82,8 @@ impl PacketLines for JudgedLines {
         lines: &mut Bytes,
         packet: &Captured<'_>,
     ) -> Result<(), Memory> {
-        let judged = judge_packet(&mut self.state, packet)?;
-        append_judged(lines, packet, &judged.verdict)
+        let verdict = judge_packet(&mut self.state, packet)?.verdict;
+        append_judged(lines, packet, &verdict)
     }
 
     fn append_last(&self, _alloc: Global, _lines: &mut Bytes) -> Result<(), Memory> {

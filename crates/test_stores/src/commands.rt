@@ -3,6 +3,7 @@ ghost use Rattle.std.specs.Prelude.{IfOk};
 ghost use Rattle.desk_model.specs.Commands.{IsAsked};
 
 use crate::bulb::{ADDRESS, CLASS, DIGEST, FILE, MAC, NAME, RESOLVER, SERVER, URL};
+use crate::switch::{SWITCH, SWITCH_DIGEST, SWITCH_FILE, SWITCH_URL};
 use desk_model::{Command, Outcome};
 use mud_base::{Bytes, Memory, Moment};
 use mud_url::{MudUrl, canonical_url};
@@ -32,6 +33,14 @@ pub enum Deed {
     Lengthen,
     /// The bulb goes.
     Remove,
+    /// The file of the switch is fetched.
+    ImportSwitch,
+    /// It is approved without a signature.
+    ApproveSwitch,
+    /// The switch announces its URL.
+    AnnounceSwitch,
+    /// No Thing has the bulb's address any longer.
+    EndLease,
 }
 
 /// What is told of a command: the word, and the second of an expiry.
@@ -49,17 +58,35 @@ pub(crate) static DEEDS: [(Deed, Told); 8] = [
     (Deed::Remove, (b"removed", None)),
 ];
 
+/// The file of the switch is approved, before the switch announces its URL.
+pub(crate) static SWITCH_DEEDS: [(Deed, Told); 3] = [
+    (Deed::ImportSwitch, (b"new", None)),
+    (Deed::ApproveSwitch, (b"approved", None)),
+    (Deed::AnnounceSwitch, (b"new", None)),
+];
+
+/// The bulb's address is taken back.
+pub(crate) static END_DEEDS: [(Deed, Told); 1] = [(Deed::EndLease, (b"ended", None))];
+
 /// The moment of the commands.
 pub(crate) fn moment() -> Moment {
     Moment::at_most_last(SECOND)
 }
 
-/// The URL of the bulb.
-fn url() -> Result<MudUrl, Memory> {
-    match canonical_url(URL) {
+/// A URL.
+fn url_of(text: &[u8]) -> Result<MudUrl, Memory> {
+    match canonical_url(text) {
         Some(url) => Ok(url),
         None => Err(Memory),
     }
+}
+
+/// The approval of a file without a signature.
+fn approval(alloc: Global, url: &[u8], digest: &[u8]) -> Result<Command, Memory>
+    ensures { IfOk result (λ command. IsAsked command) }
+{
+    let digest = Bytes::new(alloc, digest)?;
+    Ok(Command::Verdict(url_of(url)?, digest, OperatorVerdict::Waived))
 }
 
 /// The file with 9,000 spaces behind it.
@@ -92,17 +119,18 @@ pub(crate) fn command_of(alloc: Global, deed: Deed) -> Result<Command, Memory>
     ensures { IfOk result (λ command. IsAsked command) }
 {
     match deed {
-        Deed::Announce => Ok(Command::HearUrl(MAC, url()?)),
+        Deed::Announce => Ok(Command::HearUrl(MAC, url_of(URL)?)),
         Deed::Lease => Ok(Command::Lease(MAC, ADDRESS, 86_400)),
         Deed::Import => Ok(Command::Import(Bytes::new(alloc, FILE)?, moment())),
-        Deed::Approve => {
-            let digest = Bytes::new(alloc, DIGEST)?;
-            Ok(Command::Verdict(url()?, digest, OperatorVerdict::Waived))
-        }
+        Deed::Approve => approval(alloc, URL, DIGEST),
         Deed::Bind => binding(alloc),
         Deed::Observe => observation(alloc),
         Deed::Lengthen => Ok(Command::Import(longer_file(alloc)?, moment())),
         Deed::Remove => Ok(Command::Remove(MAC)),
+        Deed::ImportSwitch => Ok(Command::Import(Bytes::new(alloc, SWITCH_FILE)?, moment())),
+        Deed::ApproveSwitch => approval(alloc, SWITCH_URL, SWITCH_DIGEST),
+        Deed::AnnounceSwitch => Ok(Command::HearUrl(SWITCH, url_of(SWITCH_URL)?)),
+        Deed::EndLease => Ok(Command::EndLease(ADDRESS)),
     }
 }
 

@@ -3,8 +3,9 @@ ghost use Rattle.desk_model.specs.Commands.{IsAsked};
 ghost use Rattle.desk_model.specs.Kept.{IsKept};
 ghost use Rattle.mud_desk.specs.DeskState.{tables_of};
 
-use crate::commands::{DEEDS, Deed, Told, command_of, is_told, moment};
+use crate::commands::{DEEDS, Deed, END_DEEDS, SWITCH_DEEDS, Told, command_of, is_told, moment};
 use crate::lists::count_in;
+use crate::views::{lends_own, lends_shared, lends_views};
 use desk_model::{Command, Reply};
 use mud_desk::{Desk, Loaded, OpenFault};
 use mud_world::{KeepFault, Keeper};
@@ -52,6 +53,45 @@ fn give_each<K: Keeper>(alloc: Global, desk: &mut Desk<K>, run: &mut Run) -> Res
         run.acknowledged = run.begun;
     }
     Ok(())
+}
+
+/// Gives a desk these commands, up to the first failure.
+fn give_all<K: Keeper>(
+    alloc: Global,
+    desk: &mut Desk<K>,
+    deeds: &[(Deed, Told)],
+) -> Result<(), KeepFault>
+    requires { IsKept ⟦<K as Keeper>⟧ desk.old.keeper (tables_of desk.old.state) }
+    ensures { IsKept ⟦<K as Keeper>⟧ desk.new.keeper (tables_of desk.new.state) }
+{
+    'deeds: for (deed, told) in deeds {
+        give(alloc, desk, *deed, told)?;
+    }
+    Ok(())
+}
+
+/// Whether the rows of the first six commands are lent; behind the approval of the switch's file its
+/// row of the bulb's address beside the bulb's own; and neither where the address is taken back.
+fn shares_rows<K: Keeper>(alloc: Global, desk: &mut Desk<K>) -> Result<bool, KeepFault>
+    requires { IsKept ⟦<K as Keeper>⟧ desk.old.keeper (tables_of desk.old.state) }
+{
+    give_all(alloc, desk, &DEEDS[..6])?;
+    let begins = lends_views(desk);
+    give_all(alloc, desk, &SWITCH_DEEDS)?;
+    let shares = lends_own(desk, true) && lends_shared(desk, true);
+    give_all(alloc, desk, &END_DEEDS)?;
+    Ok(begins && shares && lends_own(desk, false) && lends_shared(desk, false))
+}
+
+/// Whether a desk over a keeper lends the rows of the bulb and of the switch.
+pub(crate) fn shares_over<K: Keeper>(alloc: Global, keeper: K) -> bool {
+    match Desk::open(alloc, keeper, Loaded::new(alloc)) {
+        Ok(desk) => {
+            let mut desk = desk;
+            matches!(shares_rows(alloc, &mut desk), Ok(true))
+        }
+        Err(_refused) => false,
+    }
 }
 
 /// Gives a desk the commands, and closes it.

@@ -2,6 +2,8 @@
 #![tactic(auto)]
 
 #[cfg(test)]
+mod batches;
+#[cfg(test)]
 mod bulb;
 #[cfg(test)]
 mod commands;
@@ -13,3 +15,7 @@ mod files;
 mod lists;
 #[cfg(test)]
 mod stops;
+#[cfg(test)]
+mod switch;
+#[cfg(test)]
+mod views;

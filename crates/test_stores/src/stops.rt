@@ -1,6 +1,6 @@
 //! Runs over two files in memory that stop after so many calls, and what a crash leaves of them.
 
-use crate::desks::{Run, count_over, run_over};
+use crate::desks::{Run, count_over, run_over, shares_over};
 use crate::files::{connect, new_files};
 use keep_sqlite::SqliteKeeper;
 use mud_world::KeepFault;
@@ -68,4 +68,19 @@ fn whole_commands_are_kept_over_stops(rt: HostRuntime) {
         }
     }
     assert!(rt; has_ended);
+}
+
+/// Whether a desk over files lends the rows of the bulb and of the switch.
+fn shares_rows<D: Crash + Drop>(alloc: Global, files: Files<D>) -> bool {
+    match connect(alloc, files) {
+        Ok(connection) => shares_over(alloc, SqliteKeeper::adopt(connection)),
+        Err(_files) => false,
+    }
+}
+
+/// A Thing's address has a row in the file of another Thing's URL, from its approval on and until the
+/// address is taken back.
+#[test]
+fn rows_come_and_go_with_files_and_leases(rt: HostRuntime) {
+    assert!(rt; shares_rows(rt.alloc(), new_files(rt.alloc(), u64::MAX)));
 }

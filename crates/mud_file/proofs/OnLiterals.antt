@@ -1,7 +1,7 @@
 -- What a proof unfolds to compute usage files that are written out.
 use Rattle.std.specs.Prelude.{⊤}
 use Rattle.usage_match.proofs.OnLiterals.{match_on_literals}
-use Rattle.mud_file.proofs.DatesOnLiterals.{date_time_on_literals}
+use Rattle.usage_dates.proofs.DatesOnLiterals.{date_time_on_literals}
 use Rattle.serde_json.proofs.OnLiterals.{serde_json_on_literals}
 use Rattle.std.specs.Str.{is_utf8, chars}
 use Rattle.mud_file.specs.Head.{version_at, as_url, url_at, update_at, as_hours, hours_at, infos_at, extension_at, extensions_in, extensions_at, head_at}

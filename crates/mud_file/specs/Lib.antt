@@ -1,5 +1,4 @@
 pub mod Bounds
-pub mod DateTime
 pub mod Entries
 pub mod File
 pub mod Head

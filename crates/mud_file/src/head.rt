@@ -7,15 +7,15 @@ ghost use Rattle.mud_file.specs.Head as spec;
 ghost use Rattle.usage_walk.specs.declared.member.Member.TheVariants as members;
 ghost use Rattle.usage_walk.specs.Reading.{under, fault_at};
 ghost use Rattle.usage_walk.specs.Kinds.{text_where_there};
-ghost use Rattle.mud_file.specs.DateTime.{seconds_in};
+ghost use Rattle.usage_dates.specs.DateTime.{seconds_in};
 ghost use Rattle.usage_walk.specs.declared.fault.Rule.TheVariants as rule;
 
-use crate::seconds_of;
 use crate::usage_file::Head;
 use mud_base::{Bytes, Listed, Memory};
 use mud_url::{MudUrl, UrlFault, mud_url};
 use serde_json::Value;
 use std::alloc::Global;
+use usage_dates::seconds_of;
 use usage_walk::kinds::{
     list_where_there, number_at, number_where_there, text_at, text_here, text_where_there, truth_at,
 };

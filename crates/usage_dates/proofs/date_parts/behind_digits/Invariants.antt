@@ -1,6 +1,6 @@
 use Rattle.std.proofs.Common.{◌≡◌, length}
-use Rattle.mud_file.specs.DateTime as spec
-use Rattle.mud_file.proofs.date_parts.behind_digits.Given as goal
+use Rattle.usage_dates.specs.DateTime as spec
+use Rattle.usage_dates.proofs.date_parts.behind_digits.Given as goal
 
 abbrev pub invariant-loop-rest : goal.invariant-loop-rest
 invariant-loop-rest l = spec.behind_digits l.rest ≡ spec.behind_digits l.text

@@ -7,7 +7,7 @@ use Rattle.std.proofs.lemmas.List.{take_all}
 use Rattle.std.proofs.lemmas.Bool.Decides.{nat_tests}
 use Rattle.mud_base.specs.Decimal.{digits_upto}
 use Rattle.mud_base.proofs.Digits.{digits_more, digits_other, digits_none, digits_above}
-use Rattle.mud_file.specs.DateTime.{number_at, behind_digits}
+use Rattle.usage_dates.specs.DateTime.{number_at, behind_digits}
 
 -- the octets at an offset and behind it
 drop_two : (text : List ℕ) (offset : ℕ) → offset + 2 ≤ length text → drop offset text ≡ get_or text offset 0 ∷ get_or text (offset + 1) 0 ∷ drop (suc (suc offset)) text

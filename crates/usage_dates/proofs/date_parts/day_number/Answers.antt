@@ -2,8 +2,8 @@ use Rattle.std.proofs.Common.{◌≡◌, ◌∙◌, ap, refl, arith, w8, w16, w3
 use Rattle.std.proofs.lemmas.Int.{ints}
 use Rattle.jiff_core.specs.Calendar.{IsDate, days_from_civil}
 use Rattle.jiff_core.specs.Date.{epoch_day}
-use Rattle.mud_file.proofs.Calendar.{day_there}
-use Rattle.mud_file.proofs.date_parts.day_number.Goals as goal
+use Rattle.usage_dates.proofs.Calendar.{day_there}
+use Rattle.usage_dates.proofs.date_parts.day_number.Goals as goal
 
 pub returns-in-Ok-clause-value : goal.returns-in-Ok-clause-value
 returns-in-Ok-clause-value c =
@@ -15,5 +15,5 @@ returns-in-Ok-clause-value c =
     let same_month : c.in-Ok.date.month ≡ c.args.month = omega (arith, ints, c.in-Ok.ensures.value.1) in
     let same_day : c.in-Ok.date.day ≡ c.args.day = omega (arith, ints, c.in-Ok.ensures.value.2) in
     let number : c.to_unix_epoch_day.result ≡ days_from_civil (pos c.args.year) c.args.month c.args.day =
-    c.to_unix_epoch_day.ensures.value ∙ ap epoch_day c.to_plain.ensures ∙ rw (c.in-Ok.ensures.value.0 ∙ year, same_month, same_day) refl in
+    c.to_unix_epoch_day.ensures.value ∙ rw (c.in-Ok.ensures.value.0 ∙ year, same_month, same_day) refl in
     ap Some kept ∙ day_there c.args.year c.args.month c.args.day c.to_unix_epoch_day.result exists number

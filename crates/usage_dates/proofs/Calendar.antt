@@ -4,7 +4,7 @@ use Rattle.std.specs.Prelude.{nat_le, ◌&&◌, if◌then◌else◌}
 use Rattle.std.proofs.lemmas.Bool.Decides.{nat_tests}
 use Rattle.std.proofs.lemmas.Int.{ints}
 use Rattle.jiff_core.specs.Calendar.{IsDate, days_in_month, days_from_civil}
-use Rattle.mud_file.specs.DateTime.{day_number}
+use Rattle.usage_dates.specs.DateTime.{day_number}
 
 within : (month day most : ℕ) (n : ℤ) → 1 ≤ month → month ≤ 12 → 1 ≤ day → day ≤ most → (if nat_le 1 month && nat_le month 12 && nat_le 1 day && nat_le day most then Some n else None) ≡ Some n
 within month day most n first last day_first day_last = grind (arith, nat_tests)

@@ -2,9 +2,9 @@
 ghost use Rattle.std.specs.Prelude.{◌≡◌, ◌≤◌, ◌+◌, ◌-◌, ◌<◌, true, false, length, IfSome, MatchOption, drop, if◌then◌else◌};
 ghost use Rattle.std.specs.Char.{is_ascii_digit};
 ghost use Rattle.jiff_core.specs.Calendar.{IsEpochDay, IsWithin};
-ghost use Rattle.mud_file.specs.DateTime as spec;
+ghost use Rattle.usage_dates.specs.DateTime as spec;
 
-use jiff::civil::Date;
+use jiff_core::civil::Date;
 
 /// The value of a decimal digit.
 fn digit_value(octet: u8) -> Option<u8>
@@ -55,7 +55,7 @@ fn day_number(year: u16, month: u8, day: u8) -> Option<i32>
     ensures bound { IfSome result IsEpochDay }
 {
     match Date::new(year as i16, month as i8, day as i8) {
-        Ok(date) => Some(date.to_plain().to_unix_epoch_day()),
+        Ok(date) => Some(date.to_unix_epoch_day()),
         Err(_) => None,
     }
 }

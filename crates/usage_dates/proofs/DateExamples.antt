@@ -1,7 +1,7 @@
 -- Texts of dates and times that are written out, as they are read.
 use Rattle.std.specs.Prelude.{◌≡◌, pos, negsuc, neg_ℤ, codes, Some, None, refl}
-use Rattle.mud_file.specs.DateTime.{seconds_in}
-use Rattle.mud_file.proofs.DatesOnLiterals.{date_time_on_literals}
+use Rattle.usage_dates.specs.DateTime.{seconds_in}
+use Rattle.usage_dates.proofs.DatesOnLiterals.{date_time_on_literals}
 
 -- the local time is ahead of UTC by the offset
 date_and_time : seconds_in (codes "2019-01-28T11:20:51+01:00") ≡ Some (pos 1548670851)

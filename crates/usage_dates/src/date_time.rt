@@ -1,7 +1,7 @@
 //! A date and time, as it is read.
 ghost use Rattle.std.specs.Prelude.{◌≡◌, ◌<◌, pos, ◌+ℤ◌, ◌-ℤ◌, ◌*ℤ◌};
 ghost use Rattle.jiff_core.specs.Calendar.{IsEpochDay, IsWithin};
-ghost use Rattle.mud_file.specs.DateTime as spec;
+ghost use Rattle.usage_dates.specs.DateTime as spec;
 
 use crate::date_parts::{day_of, second_of, time_offset_of, without_fraction};
 

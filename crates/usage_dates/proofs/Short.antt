@@ -2,7 +2,7 @@
 use Rattle.std.proofs.Common.{◌≡◌, ℕ, ◌+◌, ◌<◌, Bool, true, false, List, length, drop, Some, None, refl, arith, length-drop}
 use Rattle.std.specs.Prelude.{Option, option_and_then, if◌then◌else◌}
 use Rattle.std.proofs.lemmas.Bool.Decides.{nat_tests}
-use Rattle.mud_file.specs.DateTime.{number_at, minutes_in, second_in, day_in, seconds_in}
+use Rattle.usage_dates.specs.DateTime.{number_at, minutes_in, second_in, day_in, seconds_in}
 
 -- what ends in none is none
 none_behind : {A B : Type 0} (f : A → Option B) (o : Option A) → ((a : A) → f a ≡ None) → option_and_then f o ≡ None

@@ -1,0 +1,5 @@
+pub mod Calendar
+mod DateExamples
+pub mod DatesOnLiterals
+pub mod Digits
+pub mod Short

@@ -20,13 +20,13 @@ CHAPTERS = {
     "The outside": "mud_world keep_sqlite io_system",
     "What is read": "mud_url dhcp_lldp dns_snoop frame_view read_buffer pcap_read pcapng_read",
     "Entries": "acl_model",
-    "Usage files": "usage_walk usage_match mud_file",
+    "Usage files": "usage_walk usage_dates usage_match mud_file",
     "Tables and commands": "table_model usage_tables desk_model item_codec",
     "Verdicts": "packet_judge flow_table drop_ledger",
     "Lists for a switch": "rule_export",
     "The engine": "acl_rows acl_compile acl_buckets acl_changes table_laws thing_book bind_book file_cache desk_books mud_desk",
     "The console": "http_requests console_routes console_bodies console_answers console_listings console",
-    "The program": "text_values run_words run_common run_captures run_desk run_packets run_reports run_drills mud_cli",
+    "The program": "text_values run_words run_common run_captures run_desk run_packets run_reports run_drills run_changes mud_cli",
     "Other": "",
 }
 

@@ -80,9 +80,10 @@ def announcement(mac, url):
 class Console:
     """The console, over a connection that is kept from request to request."""
 
-    def __init__(self, wait=WAIT, place=None):
+    def __init__(self, wait=WAIT, place=None, say=None):
+        """What is told by `say` is that the console is waited for, where it can't be reached at once."""
         self.place = place or os.environ.get("MUD_CONSOLE") or PLACE
-        self.wait = wait
+        self.wait, self.say = wait, say
         self.connection, self.until = None, 0.0
 
     def close(self):
@@ -132,7 +133,7 @@ class Console:
 
     def patiently(self, action):
         """What the action gives; where the connection fails, it is tried again until the wait is over."""
-        until = time.monotonic() + self.wait
+        until, said = time.monotonic() + self.wait, not self.say
         while True:
             try:
                 return action()
@@ -144,6 +145,9 @@ class Console:
                 reason = "it ended the connection in the midst"
             if time.monotonic() >= until:
                 raise Unreachable(f"the console at {self.place} can't be reached: {reason}")
+            if not said:
+                self.say(f"waiting for the console at {self.place}: {reason}")
+                said = True
             time.sleep(min(1, self.wait / 10))
 
     def ask(self, method, path, body=b""):

@@ -7,6 +7,8 @@ environment that dnsmasq gives, 'feed' what a capture has, and its live verdicts
 import json
 import os
 import re
+import signal
+import subprocess
 import time
 import urllib.request
 
@@ -49,7 +51,7 @@ class Texts(Contrib):
                              ("mud-metrics.service", "contrib/metrics"), ("mud-fetch.service", "contrib/fetch"),
                              ("mud-capture@.service", "contrib/capture"), ("mud-day.service", "contrib/mud-day")):
             unit, words = name.replace("@", "@br0"), os.path.abspath(script)
-            text = re.sub("^ExecStart=[^ \n]*", f"ExecStart={words}", texts.read("contrib/" + name), flags=re.M)
+            text = re.sub("^(ExecStart=|ExecStopPost=-)[^ \n]*", rf"\1{words}", texts.read("contrib/" + name), flags=re.M)
             # what loads rules needn't be there
             path = self.put(unit, re.sub(r"^(Exec\w+=\+)/usr/sbin/nft", rf"\1{words}", text, flags=re.M).encode())
             ended = self.status(f"verify {unit}", 0, "systemd-analyze", "verify", "--man=no", path)
@@ -72,7 +74,70 @@ class WithoutConsole(Contrib):
 
     def test_listen(self):
         self.status("listen with no words", 2, "contrib/listen")
-        self.status("listen at an interface that isn't there", 2, "contrib/listen", "nowhere.9")
+        ended = self.status("listen at an interface that isn't there", 2, "contrib/listen", "nowhere.9")
+        self.note("listen at an interface that isn't there, what it says", b"listen: nowhere.9: no such interface\n", ended.errors)
+
+    def test_waiting(self):
+        """'feed' says once that it waits for the console, and where."""
+        place = f"http://127.0.0.1:{program.free_port()}"
+        with open(DAY, "rb") as day, subprocess.Popen(["contrib/feed"], stdin=day, stderr=subprocess.PIPE, env={**os.environ, "MUD_CONSOLE": place}) as feed:
+            self.note("what it says", f"feed: waiting for the console at {place}: nobody listens there\n", feed.stderr.readline().decode())
+            time.sleep(2)
+            feed.kill()
+            self.note("what it says besides", b"", feed.stderr.read())
+
+
+# in place of tcpdump: it says where it captures, and captures nothing until it is told to stop
+STAND_IN = """#!/bin/sh
+echo "$2" >>"$0.at"
+echo $$ >"$0.$2"
+exec sleep 60 </dev/null
+"""
+
+
+@needs("ip")
+class Ports(Contrib):
+    """'listen' at a bridge whose ports come and go, in a network that is made for it."""
+
+    def setUp(self):
+        super().setUp()
+        self.space = f"mud-ports-{os.getpid()}"
+        if run("netns", "add", self.space, program="ip").status != 0:
+            self.skipTest("no network namespace can be made")
+        self.addCleanup(run, "netns", "del", self.space, program="ip")
+        os.chmod(self.put("tcpdump", STAND_IN.encode()), 0o755)
+
+    def ip(self, *words):
+        self.assertEqual(run("-n", self.space, *words, program="ip").status, 0)
+
+    def port(self, name):
+        self.ip("link", "add", name, "type", "veth", "peer", "name", name + "-other")
+        self.ip("link", "set", name, "master", "br9")
+
+    def heard(self):
+        """Where captures were begun, in turn."""
+        return read("tcpdump.at", self.folder).decode().split() if os.path.exists(self.path("tcpdump.at")) else []
+
+    def test_ports(self):
+        self.ip("link", "add", "br9", "type", "bridge")
+        self.port("port1")
+        self.port("port2")
+        environment = {**os.environ, "PATH": self.folder + ":" + os.environ["PATH"]}
+        words = ["ip", "netns", "exec", self.space, "contrib/listen", "br9"]
+        with subprocess.Popen(words, stderr=subprocess.PIPE, env=environment) as listen:
+            program.until(lambda: len(self.heard()) == 3)
+            self.note("where it hears at the start", ["br9", "port1", "port2"], sorted(self.heard()))
+            self.ip("link", "del", "port1")
+            self.note("what it says of a port that goes", "listen: port1 is no port of br9 any more\n", listen.stderr.readline().decode())
+            self.port("port3")
+            self.holds("it hears a port that comes", program.until(lambda: len(self.heard()) == 4))
+            self.note("where it hears then", ["br9", "port1", "port2", "port3"], sorted(self.heard()))
+            self.ip("link", "set", "port2", "nomaster")
+            self.note("what it says of a port that is taken out", "listen: port2 is no port of br9 any more\n", listen.stderr.readline().decode())
+            self.note("it goes on", None, listen.poll())
+            os.kill(int(read("tcpdump.br9", self.folder)), signal.SIGKILL)
+            self.note("where the capture at the bridge ends, its status", 1, listen.wait(timeout=15))
+            self.note("where the capture at the bridge ends, what it says", b"listen: the capture at br9 has ended", listen.stderr.read().splitlines()[-1])
 
 
 def item(name, action, **matches):
@@ -157,19 +222,21 @@ class Told(Contrib):
 
     def test_dnsmasq(self):
         mac = "02:00:00:00:00:0b"
-        self.dnsmasq("add", mac, "192.0.2.77", "lamp", MUD_URL=BULB, TIME_REMAINING="120", LEASE_EXPIRES="1")
+        said = self.dnsmasq("add", mac, "192.0.2.77", "lamp", MUD_URL=BULB, TIME_REMAINING="120", LEASE_EXPIRES="1")
+        self.note("add, what dnsmasq may log of it", b"", said)
         self.note("add", [("192.0.2.77", 120)], self.leased(mac))
         self.dnsmasq("old", mac, "192.0.2.77", "lamp", TIME_REMAINING="600", LEASE_EXPIRES="1")
         self.note("old, a renewal", [("192.0.2.77", 600)], self.leased(mac))
         self.dnsmasq("old", mac, "192.0.2.77", TIME_REMAINING="0", LEASE_EXPIRES="0")
         self.note("old, for ever", [("192.0.2.77", None)], self.leased(mac))
-        self.dnsmasq("del", mac, "192.0.2.77", "lamp")
+        self.note("del, what dnsmasq may log of it", b"", self.dnsmasq("del", mac, "192.0.2.77", "lamp"))
         self.note("del", [], self.leased(mac))
         self.dnsmasq("add", "00:03:00:01:02:00:00:00:00:0b", "2001:db8::77", IAID="1", MAC=mac, TIME_REMAINING="300")
         self.note("add, an IPv6 lease", [("2001:db8::77", 300)], self.leased(mac))
         self.note("add, of an unknown hardware address", b"", self.dnsmasq("add", "00:03:00:01:02:00:00:00:00:0c", "2001:db8::78", IAID="1"))
         self.note("another word", b"", self.dnsmasq("init"))
-        self.holds("a URL that is none doesn't keep the lease from being told", b'"rule"' not in self.dnsmasq("old", mac, "192.0.2.78", MUD_URL="http://x/", TIME_REMAINING="300"))
+        said = self.dnsmasq("old", mac, "192.0.2.78", MUD_URL="http://x/", TIME_REMAINING="300")
+        self.note("a URL that is none, what dnsmasq may log of it", "dnsmasq-script: the console refused /hear/dhcp: 422 Url Scheme\n", said.decode())
         self.note("the lease", [("192.0.2.78", 300)], [row for row in self.leased(mac) if row[0] == "192.0.2.78"])
 
     def test_feed(self):

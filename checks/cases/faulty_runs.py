@@ -1,9 +1,11 @@
 """Runs the built program where its words, its input or its output are at fault, and measures how much it takes of its input."""
 import os
+import pty
 import re
 import resource
 import shutil
 import signal
+import struct
 import subprocess
 import threading
 import time
@@ -31,6 +33,25 @@ UNLISTED = [line.strip() for line in """
     serve a 8080 1000001|serve a 8080 -1|drill|drill 0|drill 01|drill 100001|drill -1|drill a|drill 1 1
     drill 18446744073709551617|--help|--version|help|help judge|judge --help|check --|-- check
     """.replace("\n", "|").split("|") if line.strip()]
+
+
+PORT, COUNT, NUMBER = (f"{name} is 1 to {most}, without a zero in front" for name, most in (("PORT", 65535), ("COUNT", 1000000), ("N", 100000)))
+KIND, MAC = "KIND is things, files, classes, locals, names or due", "MAC is six pairs of hex digits with colons between them"
+# words, and what is wrong with them
+WRONG = [
+    ([], "a command is wanted"), (["chekc"], "'chekc': there is no such command"), (["Check"], "'Check': there is no such command"),
+    (["help"], "'help': there is no such command"), ([""], "'': there is no such command"),
+    (["--help"], "'--help': no word begins with a dash"), (["--version"], "'--version': no word begins with a dash"),
+    (["judge", "a", "-v"], "'-v': no word begins with a dash"), (["chekc", "-"], "'-': no word begins with a dash"),
+    (["hear"], "hear: dhcp or lldp is missing"), (["hear", "dhpc"], "'dhpc': hear reads dhcp or lldp"), (["hear", "dhcp", "lldp"], "'lldp': it is a word too many"),
+    (["frames", "day.pcap"], "'day.pcap': it is a word too many"), (["judge"], "judge: STORE is missing"), (["judge", ""], "'': it names no STORE"),
+    (["judge", "a", "day.pcap"], "'day.pcap': it is a word too many"), (["import", "a"], "import: FOLDER is missing"), (["import", "a", ""], "'': it names no FOLDER"),
+    (["report", "a"], "report: KIND is missing"), (["report", "a", "thing"], f"'thing': {KIND}"), (["report", "a", "Things"], f"'Things': {KIND}"),
+    (["export", "a"], "export: MAC is missing"), (["export", "a", "02-00-00-00-00-01"], f"'02-00-00-00-00-01': {MAC}"),
+    (["serve", "a", "080", "5"], f"'080': {PORT}"), (["serve", "a", "65536", "5"], f"'65536': {PORT}"), (["serve", "a", "8080", "0"], f"'0': {COUNT}"),
+    (["serve", "a", "8080"], "serve: COUNT is missing"), (["serve", "", "x", "y"], "'': it names no STORE"), (["drill", "100001"], f"'100001': {NUMBER}"),
+    (["hear", b"dhcp\xff"], "a word isn't UTF-8"),
+]
 
 
 def sql(store, text):
@@ -79,6 +100,13 @@ class Words(FaultyRuns):
             self.unlisted(f"the words {words}", *words)
         self.note("whether words that are no listed line make a store", [], os.listdir(self.folder))
 
+    def test_wrong_words(self):
+        """The line before the usage text names the word that is wrong."""
+        for words, line in WRONG:
+            ended = run(*words, input=b"", cwd=self.folder)
+            self.note(f"the line of {words}", f"mud: {line}", ended.errors.decode().split("\n")[0])
+            self.note(f"what comes behind the line of {words}", ["mud 1.0.0", "usage: mud COMMAND"], ended.errors.decode().split("\n")[1:3])
+
     def test_usage(self):
         text = self.unlisted("drill with an empty word", "drill", "")
         for command in COMMANDS:
@@ -114,6 +142,113 @@ class Input(FaultyRuns):
         self.silent("import of an empty folder", 0, run("import", ":memory:", self.path("files")))
         self.put("files/1000-empty.json", b"")
         self.line("import of a refused file", 3, "1000-empty.json refused 2 Json", run("import", ":memory:", self.path("files")))
+
+
+def block(kind, body):
+    """A block of pcapng."""
+    size = struct.pack("<I", 12 + len(body))
+    return struct.pack("<I", kind) + size + body + size
+
+
+# a section with an interface of Ethernet and one of Linux cooked (draft-ietf-opsawg-pcapng)
+SECTION = block(0x0A0D0D0A, struct.pack("<IHHq", 0x1A2B3C4D, 1, 0, -1))
+INTERFACES = block(1, struct.pack("<HHI", 1, 0, 0)) + block(1, struct.pack("<HHI", 113, 0, 0))
+
+
+def packet_of(interface):
+    """A packet of an interface, of 60 octets."""
+    return block(6, struct.pack("<5I", interface, 0, 0, 60, 60) + bytes(60))
+
+
+class Unread(FaultyRuns):
+    """3 behind a capture that can't be read: standard error says what it is and what to do, and what it says helps."""
+
+    def refused(self, what, line, sentence, octets, *words):
+        """The line of the fault is the last one, and standard error has this sentence."""
+        words = words or ("frames",)
+        ended = run(*words, input=octets)
+        self.note(what + ", status", 3, ended.status)
+        self.note(what + ", line", line, ended.out.decode().splitlines()[-1])
+        self.says(what, sentence, ended)
+
+    def helps(self, what, sentence, octets, lines):
+        """By the line of tshark that stands at the end of what is said, frames reads so many lines."""
+        if not shutil.which("tshark"):
+            self.left_out(what + ", by the line", "there is no tshark")
+            return
+        line = sentence[sentence.index("tshark "):].replace("IN", self.put("in", octets)).replace("OUT", self.path("out"))
+        subprocess.run(line, shell=True, stderr=subprocess.DEVNULL, check=True)
+        ended = run("frames", input=self.path("out"))
+        self.note(what + ", by the line", (0, lines), (ended.status, ended.out.count(b"\n")))
+
+    def test_links(self):
+        for link, rest in ((113, " (Linux cooked), and not of Ethernet: capture at an interface, and not at 'any'"),
+                           (276, " (Linux cooked, version 2), and not of Ethernet: capture at an interface, and not at 'any'"),
+                           (127, " (802.11 with radiotap), and not of Ethernet: it was heard by a monitor; capture at an interface of Ethernet"),
+                           (101, " (raw IP), and not of Ethernet: capture at an interface of Ethernet"),
+                           (4000, ", and not of Ethernet: capture at an interface of Ethernet")):
+            for order in "<>":
+                self.refused(f"link {link}, order {order}", "fault LinkType", f"the capture is of link {link}{rest}",
+                             program.capture([(1, bytes(60))], link=link, order=order, magic=0xA1B23C4D))
+        said = "the capture says that check sequences follow its frames: tshark -F pcap -r IN -w OUT"
+        octets = program.capture([(1, bytes(64))], link=0x24000001)
+        self.refused("a frame check sequence", "fault LinkType", said, octets)
+        self.helps("a frame check sequence", said, octets, 1)
+
+    def test_packed(self):
+        for tool, unpack, format in (("gzip", "zcat", "gzip"), ("zstd", "zstdcat", "zstd")):
+            if not shutil.which(tool):
+                self.left_out(tool, f"there is no {tool}")
+                continue
+            packed = self.put("packed", subprocess.run([tool, "-c", CAPTURE], capture_output=True, check=True).stdout)
+            for words in (["frames"], ["judge", ":memory:"], ["snoop", ":memory:"], ["tally", ":memory:"]):
+                line = " ".join(words).replace(":memory:", "STORE")
+                ended = run(*words, input=packed)
+                self.note(f"{line} of {format}, status and last line", (3, b"fault Magic"), (ended.status, ended.out.splitlines()[-1]))
+                said = f"mud: the input is packed by {format}: {unpack} FILE | mud {line}"
+                self.note(f"{line} of {format}, what standard error is told first", [said], ended.errors.decode().splitlines()[:1])
+                # what it says is done
+                command = said.partition("by ")[2].partition(": ")[2].replace("FILE", packed).replace("mud ", program.PROGRAM + " ").replace("STORE", ":memory:")
+                shown = subprocess.run(command, shell=True, capture_output=True, check=False)
+                self.note(f"{line} of {format}, by the line", run(*words, input=CAPTURE).out, shown.stdout)
+
+    def test_interfaces(self):
+        """pcapng of two links: what stands before the first packet of the other link has its lines."""
+        octets = SECTION + INTERFACES + packet_of(0) + packet_of(1) + packet_of(0)
+        place = len(SECTION + INTERFACES + packet_of(0))
+        said = "the packet at that octet came by an interface of another link than Ethernet; those of the first interface alone: "
+        line = "tshark -r IN -Y 'frame.interface_id==0' -w OUT"
+        self.refused("two links", f"fault LinkType {place}", said + line, octets)
+        self.refused("a broken section", "fault Magic 0", "the section of the capture at that octet is damaged", SECTION[:8] + bytes(4) + SECTION[12:])
+        self.helps("two links", line, octets, 2)
+
+    def test_other_formats(self):
+        said = "the input is no capture in the classic format or in pcapng; one in another format: tshark -F pcap -r IN -w OUT"
+        snoop = b"snoop\0\0\0" + struct.pack(">II", 2, 4) + struct.pack(">IIIIII", 60, 60, 84, 0, 1000, 0) + bytes(60)
+        self.refused("snoop's format", "fault Magic", said, snoop)
+        self.refused("a text", "fault Magic", said, b"no capture at all, but a line of text\n")
+        self.helps("snoop's format", said, snoop, 1)
+
+    def test_other_faults(self):
+        """Of any other fault nothing is said besides."""
+        octets = program.capture([(1, bytes(60))])
+        for what, broken in (("nothing", b""), ("a part of the header", octets[:20]), ("another version", octets[:4] + bytes(4) + octets[8:]),
+                             ("a part of a packet", octets[:-1]), ("a section alone that is cut", SECTION[:-2])):
+            ended = run("frames", input=broken)
+            self.note(what + ", status and standard error", (3, b""), (ended.status, ended.errors))
+
+    def test_terminal(self):
+        """At a terminal a command that reads says that it waits, and reads."""
+        for words, awaited in ((["judge", ":memory:"], "a capture"), (["frames"], "a capture"), (["hear", "lldp"], "a message"),
+                               (["check"], "a usage file"), (["replay", ":memory:"], "requests"), (["report", ":memory:", "due"], None)):
+            ours, theirs = pty.openpty()
+            ran = subprocess.Popen([program.PROGRAM, *words], stdin=theirs, stdout=subprocess.DEVNULL, stderr=subprocess.PIPE)
+            os.close(theirs)
+            os.write(ours, b"\n\x04\x04")
+            said = ran.communicate(timeout=program.SECONDS)[1].decode()
+            os.close(ours)
+            wanted = [f"mud: waiting for {awaited} on standard input"] if awaited else []
+            self.note(f"{words} at a terminal", wanted, said.splitlines()[:1])
 
 
 class Failures(FaultyRuns):
@@ -157,9 +292,11 @@ class Failures(FaultyRuns):
         self.unwritten("import", "import", ":memory:", self.path("files"))
         for what, path, sentence in (
                 ("a folder that isn't there", self.path("none"), "the folder can't be read: No such file or directory (os error 2)"),
-                ("a file in a folder's place", FILE, "the folder can't be read: Not a directory (os error 20)"),
-                ("a folder in a file's place", self.path("other"), "a file of the folder can't be read: Is a directory (os error 21)")):
-            self.is_refused("import of " + what, 4, sentence, run("import", ":memory:", path))
+                ("a file in a folder's place", FILE, "the folder can't be read: Not a directory (os error 20)")):
+            self.is_refused("import of " + what, 4, f"{path}: {sentence}", run("import", ":memory:", path))
+        folder = self.path("other/1-folder.json")
+        self.is_refused("import of a folder in a file's place", 4, f"{folder}: the file can't be read: Is a directory (os error 21)",
+                        run("import", ":memory:", self.path("other")))
 
 
 @needs("sqlite3")

@@ -126,6 +126,13 @@ class Clients(ProgramCase):
             self.holds("it has two at most", seconds <= 120, f"{seconds} seconds")
             server.ended(self, "a client that sends an octet a second")
 
+    @needs("ss")
+    def test_here_alone(self):
+        """The system knows one socket that listens at the port, and it is of 127.0.0.1."""
+        with Server(1) as server:
+            ended = run("-Hltn", f"sport = :{server.port}", program="ss")
+            self.note("where it listens", [f"127.0.0.1:{server.port}"], [row.split()[3] for row in ended.out.decode().splitlines()])
+
     def test_taken_port(self):
         """Nothing is served, nothing written, and standard error says so."""
         with Server(1) as server:

@@ -1,6 +1,9 @@
 """Looks at what a store holds when it is opened, and when the program is stopped or its disk fails.
 
-Each command that opens a store takes nothing away from it, and the file of a store is the one at its path. Six requests
+Each command that opens a store takes nothing away from it, and the file of a store is the one at its path; standard
+error is told of one that wasn't there or has no Things. Behind a command that came to its end a copy of the file alone
+lists what both files did, also where 'serve' was stopped as mud.service stops it, and where it was killed before a call
+by which it writes the log into the file. Six requests
 are answered over a new store, and the next run lists what they make; with strace the program is killed before each
 call that writes to the store, and the next run lists what the requests make that were answered, or one more. 'mud
 serve' is killed at a hundred random moments (or RUNS), while a client sends changes one by one; the store then has each
@@ -24,6 +27,7 @@ from checks.program import Server, answers, clear_store, copy_store, read, reque
 
 URL = "https://lighting.example.com/lightbulb2000"
 MAC = "02:00:00:00:00:01"
+CAPTURE = "examples/captures/vlan-trunk.pcap"
 BULB = "examples/usage-files/made-lightbulb.json"
 BOUND = session.answer(200, '{"result":"bound"}')
 GET = request("GET", "/things", moment=1)
@@ -74,18 +78,20 @@ class Stores(ProgramCase):
         self.holds(what, least <= found <= most, f"{least} changes were acknowledged, {found} are kept")
         return found
 
-    def told(self, what, ended):
-        """Standard error has one line, on the store at its path."""
+    def told(self, what, ended, behind=()):
+        """Standard error has one line, on the store at its path, and those that are wanted behind it."""
+        lines = ended.errors.decode().splitlines(True)
         self.holds(what + ", what is said on standard error",
-                   re.fullmatch(f"mud: {re.escape(self.folder)}/[^:\n]*: [^\n]*\n", ended.errors.decode()), repr(ended.errors))
+                   lines and re.fullmatch(f"mud: {re.escape(self.folder)}/[^:\n]*: [^\n]*\n", lines[0]), repr(ended.errors))
+        self.note(what + ", what is said behind it", [f"mud: {sentence}\n" for sentence in behind], lines[1:])
 
-    def refused(self, what, *words, **more):
+    def refused(self, what, *words, behind=(), **more):
         """Status 7, nothing on standard output, one line on standard error, and nothing read."""
         ended = run(*words, input=self.put("input", GET), **more)
         self.note(what + ", status", 7, ended.status)
         self.note(what + ", octets written", b"", ended.out)
         self.note(what + ", octets left of the input", len(GET), ended.left)
-        self.told(what, ended)
+        self.told(what, ended, behind)
 
     def all_refused(self, what, store, port=8080, **more):
         """Each command that opens a store is refused so."""
@@ -129,6 +135,148 @@ class Opened(Stores):
             self.note(what + ", where its files were put", line, run("report", f"{elsewhere}/{name}", "names").out)
             shutil.rmtree(paths)
             shutil.rmtree(elsewhere)
+
+
+EMPTY = "there was no store here, and an empty one was made"
+ASK = [["judge"], ["snoop"], ["tally"], ["report", "things"], ["report", "due"], ["export", MAC]]
+CHANGE = [["import"], ["replay"], ["serve"]]
+NO_NAME = "no name could be learnt: no address is bound to urn:ietf:params:mud:dns"
+
+
+class Missing(Stores):
+    """What standard error is told of a store that wasn't there, and of one that has no Things."""
+
+    def said(self, store, words, captured=CAPTURE):
+        """The status and the lines of standard error of a command over a store."""
+        more = [self.path("files")] if words[0] == "import" else [str(program.free_port()), "1"] if words[0] == "serve" else words[1:]
+        if words[0] == "serve":
+            with Server(1, store) as server:
+                program.sent(server.port, GET)
+                server.process.wait(timeout=10)
+                return server.process.returncode, server.process.stderr.read().decode().splitlines()
+        ended = run(words[0], store, *more, input=captured if words[0] in ("judge", "snoop", "tally") else GET)
+        return ended.status, ended.errors.decode().splitlines()
+
+    def lines(self, words, *sentences):
+        return [f"mud: {sentence}" for sentence in [*sentences, *([NO_NAME] if words[0] == "snoop" else [])]]
+
+    def test_no_store(self):
+        for words in ASK:
+            clear_store(self.store)
+            status = 3 if words[0] == "export" else 0
+            self.note(f"{words} where there is no store", (status, self.lines(words, f"{self.store}: {EMPTY}")), self.said(self.store, words))
+            self.holds(f"{words} where there was no store, there is one", os.path.exists(self.store))
+            wanted = [f"{self.store} has no Things, so every packet is let through as unmanaged"] if words[0] in ("judge", "snoop", "tally") else []
+            self.note(f"{words} where there is an empty store", (status, self.lines(words, *wanted)), self.said(self.store, words))
+        for words in CHANGE:
+            clear_store(self.store)
+            for what in ("no store", "an empty store"):
+                self.note(f"{words} where there is {what}", (0, []), self.said(self.store, words))
+
+    def test_broken_capture(self):
+        """Behind a capture that is refused too; where no store can be made, nothing but that is said."""
+        self.note("a broken capture", (3, [f"mud: {self.store}: {EMPTY}"]), self.said(self.store, ["judge"], b""))
+        self.note("a broken capture and an empty store", (3, [f"mud: {self.store} has no Things, so every packet is let through as unmanaged"]),
+                  self.said(self.store, ["judge"], b""))
+        ended = run("judge", self.path("none/store"), input=CAPTURE)
+        self.told("no folder", ended)
+        self.note("no folder, status", 7, ended.status)
+
+    def test_memory(self):
+        for words in ASK[:3]:
+            self.note(f"{words} in memory", (0, self.lines(words)), self.said(":memory:", words))
+
+    def test_things(self):
+        """Of a store with a Thing nothing is said."""
+        run("replay", self.store, input=SIX.octets)
+        for words in [["judge"], ["snoop"], ["tally"], ["report", "due"], ["export", MAC]]:
+            self.note(f"{words} over a store with a Thing", (0, []), self.said(self.store, words))
+
+
+KINDS = ("things", "files", "classes", "locals", "names", "due")
+
+
+class Closed(Stores):
+    """Behind a command that came to its end the file alone has all, and the log nothing."""
+
+    def reports(self, store):
+        """What the six reports of a store list, each with its status."""
+        return [(ended.status, ended.out) for ended in (run("report", store, kind) for kind in KINDS)]
+
+    def alone(self, what, wanted):
+        """A copy of the file, without its log, has these reports, and SQLite finds it sound."""
+        clear_store(self.path("alone"))
+        shutil.copy(self.store, self.path("alone"))
+        self.note(what + ", SQLite's test of the file alone", [("ok",)], found_in(self.path("alone"), "PRAGMA integrity_check"))
+        self.note(what + ", the file alone", wanted, self.reports(self.path("alone")))
+
+    def made(self, ends=lambda server: server.kill()):
+        """Makes the store as it stands where 'serve' was ended so behind the six requests. What its two files list."""
+        clear_store(self.store)
+        with Server(2, self.store) as server:
+            self.note("the six answers", 6, program.sent(server.port, SIX.octets).count(b"HTTP/1.1 200 OK"))
+            ends(server)
+        copy_store(self.store, self.path("both"))
+        found = self.reports(self.path("both"))
+        self.note("what its two files list", (set([0]), [2, 1, 1, 0, 1, 0]), ({status for status, _ in found}, [out.count(b"\n") for _, out in found]))
+        return found
+
+    def test_commands(self):
+        """Each command that ends with 0 or 3, behind one that was killed and left all in the log."""
+        for words in [["judge"], ["snoop"], ["tally"], ["report", "due"], ["export", MAC], ["export", "02:00:00:00:00:09"], ["import"], ["replay"]]:
+            wanted = self.made()
+            more = [self.path("files")] if words[0] == "import" else words[1:]
+            ended = run(words[0], self.store, *more, input=GET if words[0] == "replay" else CAPTURE)
+            self.note(f"{words}, status", 3 if words[-1].endswith("09") else 0, ended.status)
+            self.alone(f"behind {words}", wanted)
+        wanted = self.made()
+        ended = run("judge", self.store, input=b"")
+        self.note("a broken capture, status", 3, ended.status)
+        self.alone("behind a broken capture", wanted)
+        wanted = self.made()
+        with Server(1, self.store) as server:
+            program.sent(server.port, GET)
+            server.ended(self, "serve")
+        self.alone("behind serve", wanted)
+
+    def test_changes(self):
+        """What the last run itself changed is in the file."""
+        run("replay", self.store, input=SIX.octets)
+        self.note("behind six requests, what is listed", listed(6), b"".join(run("report", self.store, kind).out for kind in KINDS[:5]).decode())
+        self.alone("behind six requests", self.reports(self.store))
+
+    def test_stop(self):
+        """'serve' is ended by a signal; then comes what mud.service does behind a stop."""
+        unit = read("contrib/mud.service").decode()
+        words = re.search(r"^ExecStopPost=-/usr/local/bin/mud (.*)$", unit, re.M)[1].split()
+        self.note("the unit's store", 2, unit.count("/var/lib/mud/mud.db "))
+
+        def stopped(server):
+            server.process.terminate()
+            self.note("the stop", -15, server.process.wait(timeout=10))
+
+        wanted = self.made(stopped)
+        ended = run(*[self.store if word.startswith("/") else word for word in words])
+        self.note("what stands behind a stop", (0, b""), (ended.status, ended.errors))
+        self.alone("behind a stop", wanted)
+
+    @needs("strace")
+    def test_before_each_call(self):
+        """The program is killed before each call by which it writes all of the log into the file."""
+        if run("-o", "/dev/null", "true", program="strace").status != 0:
+            self.skipTest("there is no leave to trace")
+        wanted, counts = self.made(), {}
+        copy_store(self.store, self.path("before"))
+        for call in ("pwrite64", "fsync", "fdatasync", "ftruncate"):
+            for number in range(1, 1000):
+                copy_store(self.path("before"), self.store)
+                ended = run("-f", "-qq", "-o", "/dev/null", "-e", f"trace={call}", "-e", f"inject={call}:signal=KILL:when={number}",
+                            program.PROGRAM, "report", self.store, "due", program="strace")
+                if ended.status != -9:
+                    break
+                counts[call] = number
+                self.note(f"killed before {call} {number}", wanted, self.reports(self.store))
+        self.holds("it was killed before writes and syncs", counts.get("pwrite64", 0) > 1 and len(counts) > 1, str(counts))
 
 
 # six requests, by which a Thing gets an address, an approved usage file, a DNS server, and the address of the server that the
@@ -278,7 +426,9 @@ class Refused(Stores):
         self.addCleanup(os.chmod, closed, 0o755)
         self.refused("a folder without leave to write", "replay", closed + "/store", program=own, **more)
         self.note("a folder without leave to write, files in it", ["read-only"], os.listdir(closed))
-        self.refused("a file that may only be read", "replay", closed + "/read-only", program=own, **more)
+        unwritable = f"{closed}/read-only: it can be read and not written: ask a copy of it that may be written"
+        for words in (("replay", closed + "/read-only"), ("report", closed + "/read-only", "due"), ("judge", closed + "/read-only")):
+            self.refused(f"a file that may only be read, {words[0]}", *words, behind=[unwritable], program=own, **more)
         self.note("a file that may only be read, behind it", read(self.store), read(closed + "/read-only"))
 
 
@@ -346,6 +496,28 @@ class Full(Stores):
         self.free()
         self.note("the store behind both", kept, run("report", store, "classes").out)
         self.ends("import where there is room again", 0, "1000-bulb.json new\n", run("import", store, self.path("imports")))
+
+    def unclosed(self, store):
+        """Where the log can't be written into the file, that is said, the status stays, and both files have all."""
+        run("replay", store, input=b"".join(map(change, range(64))))
+        with Server(2, store) as server:
+            program.sent(server.port, b"".join(map(change, range(64, 64 + self.CHANGES))))
+            server.kill()
+        copy_store(store, self.path("both"))
+        wanted = run("report", self.path("both"), "classes").out
+        self.note("a full folder, what there is", 64 + self.CHANGES, wanted.count(b"\n"))
+        self.fill(0)
+        ended = run("report", store, "classes", program=self.full)
+        self.note("a full folder at the end of a run", (0, wanted), (ended.status, ended.out))
+        self.told("a full folder at the end of a run", ended)
+        self.holds("a full folder at the end of a run, what is said", b": its log stays beside it: the disk " in ended.errors, repr(ended.errors))
+        self.free()
+        ended = run("report", store, "classes")
+        self.note("where there is room again", (0, wanted, b""), (ended.status, ended.out, ended.errors))
+
+    def test_limit_at_the_end(self):
+        self.limit(16)
+        self.unclosed(self.store)
 
     def test_limit(self):
         self.limit(0)

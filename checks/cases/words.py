@@ -1,4 +1,5 @@
-"""Looks for names that went, by checks/words.list, in the code and the edits of crates/ and plants/, in docs/ and README.md.
+"""Looks for names that went, by checks/words.list, in the code and the edits of crates/ and plants/, in docs/ and README.md;
+and for two public types of one name, of which no more may come than checks/types.list has.
 
 In code, comments included, a name is a whole run of letters, digits and '_'. In a page it counts between back
 quotes, and elsewhere where it can be no plain word: with a '_' in it, or a capital behind its first letter.
@@ -49,6 +50,16 @@ def found_names(wanted):
     return found
 
 
+def types_of_one_name():
+    """The names that public types of several crates have, each with these crates. Tests aren't looked at."""
+    found = collections.defaultdict(set)
+    for crate in texts.crates():
+        for path in texts.sources(crate) if not crate.startswith("test_") else ():
+            for name in re.findall(r"^pub (?:struct|enum|trait) (\w+)", texts.read(path), re.M):
+                found[name].add(crate)
+    return {name: crates for name, crates in found.items() if len(crates) > 1}
+
+
 class Words(Case):
     def test_words(self):
         went = names_that_went()
@@ -56,3 +67,11 @@ class Words(Case):
         for (crate, name), now in went.items():
             places = [place for place in found[crate, name] if crate != "*" or (place.split("/")[1], name) not in went]
             self.holds(name, not places, "".join(f"\n{place}: {name} is now {now}" for place in places))
+
+    def test_types(self):
+        """One word stands for one thing: a type gets a name that no other has, and a pair that went leaves the list."""
+        known = {name: set(crates.split()) for name, _, crates in
+                 (line.partition(": ") for line in texts.lines("checks/types.list") if not line.startswith("#"))}
+        found = types_of_one_name()
+        for name in sorted(known.keys() | found.keys()):
+            self.note(f"the crates with a public type {name}", sorted(known.get(name, ())), sorted(found.get(name, ())))

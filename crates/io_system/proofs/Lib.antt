@@ -1,2 +1,3 @@
 pub mod FirstOctets
 pub mod Folders
+pub mod Kept

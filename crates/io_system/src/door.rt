@@ -1,7 +1,7 @@
 //! The real door. What a pipe, a terminal or a client gives and takes is outside what is proved, so
 //! it tells nothing of content. Its counts and bounds are proved, and what it does with the reader,
 //! the writer and the client that it is made of.
-ghost use Rattle.std.specs.Prelude.{◌≡◌, ◌≢◌, ◌<◌, ◌≤◌, false, true, [], length, IfErr, IfOk, OnOk, OnErr, Ok, None, Some, is_some, is_err};
+ghost use Rattle.std.specs.Prelude.{◌≡◌, ◌≢◌, ◌<◌, ◌≤◌, ◌-◌, ◌++◌, false, true, [], drop, length, take, IfErr, IfOk, OnOk, OnErr, Ok, None, Some, is_some, is_err};
 ghost use Rattle.std.specs.Io.KnownBytes.{ReadConsumes, WriteAppends};
 ghost use Rattle.mud_world.specs.Calls.{counted as count_after};
 ghost use Rattle.mud_world.specs.Causes.{Counts};
@@ -11,6 +11,7 @@ ghost use Rattle.io_system.specs.Real.{left_of, port_of, reads_of, stands_of, tu
 
 use crate::failure::{Call, Failure};
 use crate::port::Port;
+use arrayvec::ArrayVec;
 use mud_world::{Door, Failed};
 use std::io::{self, ErrorKind, Read, Write};
 use std::net::Net;
@@ -29,7 +30,8 @@ pub enum Place<N: Net> {
 
 /// A door over standard input and output, or over any reader and writer, until it is bound: one
 /// connection, at which it stands from the start. Once it is bound it is over the connections of the
-/// clients of a port of this machine. It keeps which call failed last, and why.
+/// clients of a port of this machine. It keeps which call failed last, and why, the first octets that
+/// it read, and the last ones of the last write.
 #[derive(Drop)]
 pub struct RealDoor<I: Read + Drop, O: Write + Drop, N: Net + Clock + Drop> {
     pub input: I,
@@ -42,6 +44,33 @@ pub struct RealDoor<I: Read + Drop, O: Write + Drop, N: Net + Clock + Drop> {
     failed: bool,
     /// The call that failed last, if one did.
     pub failure: Option<Failure>,
+    /// The first octets that were read.
+    pub first: ArrayVec<u8, FIRST_KEPT>,
+    /// The last octets of the last write.
+    pub last: ArrayVec<u8, LAST_KEPT>,
+}
+
+/// How many of the first octets that were read are kept: as many as the header of a capture has.
+pub const FIRST_KEPT: usize = 24;
+
+/// How many of the last octets of a write are kept: as many as the line of a capture's fault may have.
+pub const LAST_KEPT: usize = 40;
+
+/// Keeps more of the first octets, while there is room.
+fn keep_first(first: &mut ArrayVec<u8, FIRST_KEPT>, octets: &[u8])
+    ensures { first.new.items ≡ take 24 (first.old.items ++ octets.now) }
+{
+    let count = first.remaining_capacity().min(octets.len());
+    let (piece, _) = octets.split_at(count);
+    let _kept = first.try_extend_from_slice(piece);
+}
+
+/// Keeps the last of these octets.
+fn keep_last(last: &mut ArrayVec<u8, LAST_KEPT>, octets: &[u8])
+    ensures { last.new.items ≡ drop (length octets.now - 40) octets.now }
+{
+    last.clear();
+    let _kept = last.try_extend_from_slice(&octets[octets.len().saturating_sub(LAST_KEPT)..]);
 }
 
 impl<I: Read + Drop, O: Write + Drop, N: Net + Clock + Drop> RealDoor<I, O, N> {
@@ -57,6 +86,7 @@ impl<I: Read + Drop, O: Write + Drop, N: Net + Clock + Drop> RealDoor<I, O, N> {
         ensures writes { (⟦<RealDoor<I, O, N> as Door>⟧.view result).writes ≡ 0 }
         ensures failed { (⟦<RealDoor<I, O, N> as Door>⟧.view result).failed ≡ false }
         ensures failure { result.failure ≡ None }
+        ensures first { result.first.items ≡ [] }
     {
         RealDoor {
             input,
@@ -68,6 +98,8 @@ impl<I: Read + Drop, O: Write + Drop, N: Net + Clock + Drop> RealDoor<I, O, N> {
             writes: 0,
             failed: false,
             failure: None,
+            first: ArrayVec::new(),
+            last: ArrayVec::new(),
         }
     }
 }
@@ -190,19 +222,22 @@ impl<I: Read + Drop, O: Write + Drop, N: Net + Clock + Drop> Door for RealDoor<I
         ensures noted { Notes (is_err result) Call.Read self.old.failure self.new.failure }
         ensures turns { turns_of self.new ≡ turns_of self.old }
         ensures writes { writes_of self.new ≡ writes_of self.old }
+        ensures first { IfOk result (λ n. self.new.first.items ≡ take 24 (self.old.first.items ++ take n buf.new)) }
     {
         let answer = match &mut self.place {
             Place::Standard => self.input.read(buf),
             Place::Left => Ok(0),
             Place::Bound(port) => port.read(&self.net, buf),
         };
-        counted(
+        let count = counted(
             answer,
             Call::Read,
             &mut self.reads,
             &mut self.failed,
             &mut self.failure,
-        )
+        )?;
+        keep_first(&mut self.first, &buf[..count]);
+        Ok(count)
     }
 
     /// It writes once to where it stands. A writer or a client that takes nothing has failed, and so
@@ -222,6 +257,7 @@ impl<I: Read + Drop, O: Write + Drop, N: Net + Clock + Drop> Door for RealDoor<I
         ensures noted { Notes (is_err result) Call.Write self.old.failure self.new.failure }
         ensures turns { turns_of self.new ≡ turns_of self.old }
         ensures reads { reads_of self.new ≡ reads_of self.old }
+        ensures line { IfOk result (λ n. 0 < n → self.new.last.items ≡ drop (n - 40) (take n piece.now)) }
     {
         self.failed = false;
         if piece.is_empty() {
@@ -232,12 +268,14 @@ impl<I: Read + Drop, O: Write + Drop, N: Net + Clock + Drop> Door for RealDoor<I
             Place::Left => Ok(0),
             Place::Bound(port) => port.write(piece),
         };
-        counted(
+        let count = counted(
             taken(answer),
             Call::Write,
             &mut self.writes,
             &mut self.failed,
             &mut self.failure,
-        )
+        )?;
+        keep_last(&mut self.last, &piece[..count]);
+        Ok(count)
     }
 }

@@ -1,7 +1,7 @@
 //! The real spool: the files of one folder. What a folder holds is outside what is proved, so it
 //! tells nothing of its files. Its counts and bounds are proved, and what it makes of the octets that
 //! a file gives.
-ghost use Rattle.std.specs.Prelude.{◌≡◌, ◌≤◌, ◌<◌, ◌++◌, ◌∷◌, ◌⊎◌, [], codes, length, take, false, string_bytes, Err, None, Ok, Some, IfErr, IfOk, IfSome, OnOk, is_err};
+ghost use Rattle.std.specs.Prelude.{◌≡◌, ◌≤◌, ◌<◌, ◌++◌, ◌∷◌, ◌⊎◌, [], codes, length, take, false, string_bytes, Err, None, Ok, Some, IfErr, IfOk, IfSome, OnOk, is_err, is_some, true};
 ghost use Rattle.std.specs.Iterator.{Drains, IsFinite};
 ghost use Rattle.std.specs.Io.KnownBytes.{Consumes, IsAtEnd};
 ghost use Rattle.mud_world.specs.Calls.{counted as count_after};
@@ -31,6 +31,8 @@ pub struct RealSpool<R: Files + AllocGlobal + Clone + Drop> {
     failed: bool,
     /// The call that failed last, if one did.
     pub failure: Option<Failure>,
+    /// The path of the file that was read last, where its name is UTF-8.
+    pub file: Option<String>,
 }
 
 impl<R: Files + AllocGlobal + Clone + Drop> RealSpool<R> {
@@ -49,7 +51,15 @@ impl<R: Files + AllocGlobal + Clone + Drop> RealSpool<R> {
             faults: 0,
             failed: false,
             failure: None,
+            file: None,
         }
+    }
+
+    /// The path of the folder.
+    pub fn folder(&self) -> &str
+        ensures { result.now ≡ string_bytes self.now.folder }
+    {
+        self.folder.as_str()
     }
 }
 
@@ -204,20 +214,26 @@ fn path_of(folder: &str, name: &str, alloc: Global) -> Result<String, Trouble>
     }
 }
 
-/// The first octets of the file of that name in a folder.
+/// The first octets of the file of that name in a folder, whose path is kept.
 fn octets_of<R: Files>(
     runtime: &R,
     folder: &str,
     alloc: Global,
     name: &[u8],
+    file: &mut Option<String>,
 ) -> Result<Bytes, Trouble>
-    ensures { IfOk result (λ octets. length octets ≤ 262145) }
+    ensures within { IfOk result (λ octets. length octets ≤ 262145) }
+    ensures file { IfSome file.new (λ path. string_bytes path ≡ folder.now ++ codes "/" ++ name.now) }
+    ensures named { OnOk result (is_some file.new ≡ true) }
 {
+    *file = None;
     let Ok(name) = str::from_utf8(name) else {
         return Err(Trouble::System(ErrorKind::InvalidFilename.into()));
     };
     let path = path_of(folder, name, alloc)?;
-    octets_in(fs::open(runtime, path.as_str()), alloc)
+    let octets = octets_in(fs::open(runtime, path.as_str()), alloc);
+    *file = Some(path);
+    octets
 }
 
 /// The answer of a call of a spool, counted where the spool itself failed, and noted then as the last
@@ -277,8 +293,17 @@ impl<R: Files + AllocGlobal + Clone + Drop> Spool for RealSpool<R> {
         ensures count { faults_of self.new ≡ count_after (has_failed result) (faults_of self.old) }
         ensures last { self.new.failed ≡ has_failed result }
         ensures noted { Notes (has_failed result) Call.ReadFile self.old.failure self.new.failure }
+        // Where the path of a file is kept, it is that of this name.
+        ensures file { IfSome self.new.file (λ path. string_bytes path ≡ string_bytes self.old.folder ++ codes "/" ++ name.now) }
+        ensures folder { self.new.folder ≡ self.old.folder }
     {
-        let answer = octets_of(&self.runtime, self.folder.as_str(), alloc, name);
+        let answer = octets_of(
+            &self.runtime,
+            self.folder.as_str(),
+            alloc,
+            name,
+            &mut self.file,
+        );
         counted(
             answer,
             Call::ReadFile,

@@ -15,8 +15,10 @@ use Rattle.sqlite.specs.Start.{FindsIn}
 use Rattle.keep_sqlite.specs.declared.refusal.Refusal.{Refusal}
 use Rattle.keep_sqlite.specs.FileKeepers.{is_read, opened_items, FailsOnFiles, FailsToConnect, IsAdopted, IsJustOpened, IsOpenedOver, IsSystemError, OpenedIsClean, OpenedLeavesTold, OpenedSees, OpenedTells, UnconnectedFor, UnopenedFor}
 use Rattle.keep_sqlite.specs.Refusals.{refusal_of}
-use Rattle.keep_sqlite.specs.Reopened.{HeldDatabase, ReadsFile}
+use Rattle.keep_sqlite.specs.Reopened.{HeldDatabase, HeldStore, ReadsFile}
 use Rattle.keep_sqlite.specs.Rows.{MayHold}
+use Rattle.keep_sqlite.specs.Standing.{IsAtRest}
+use Rattle.keep_sqlite.specs.Table.{no_schema}
 use Rattle.keep_sqlite.specs.Telling.{database, told, IsUp, KeeperView}
 use Rattle.keep_sqlite.proofs.Reopens.{found_in, reads_file}
 use Rattle.keep_sqlite.proofs.Blank.{empty_found, empty_schema}
@@ -67,28 +69,6 @@ module _ {D : Type 0} {g : Ghosts D} (image : Image) where
       let first = subst (λ c. HasCleanDisk (file_state c)) same clean in
       (clean, subst (λ c. IsTrue (file_state c).is_open) (sym same) (is_opened first).0.is_open)
 
-  -- and no transaction is begun on it
-  quiet_file : (opened : Result (Held (FileStore D g)) Refusal) (keeper : Result (KeeperView (FileStore D g)) Refusal) → IsAdopted opened keeper
-      → IfOk opened (λ c. HasCleanDisk (file_state c) → IsOpened c)
-      → (IfOk opened (λ c. c.in_transaction ≡ false) → OpenedLeavesTold over_files keeper) → OpenedLeavesTold over_files keeper
-  quiet_file (Ok connection) (Ok keeper) adopted is_opened rests tells =
-      rests (is_opened (subst (λ c. HasCleanDisk (file_state c)) adopted.0 tells.0.0)).0.autocommit tells
-  quiet_file (Ok connection) (Err refusal) adopted is_opened rests tells = absurd tells
-  quiet_file (Err refusal) (Ok keeper) adopted is_opened rests tells = absurd adopted
-  quiet_file (Err refusal) (Err again) adopted is_opened rests tells = absurd tells
-
-  tells_file : (opened : Result (Held (FileStore D g)) Refusal) (keeper : Result (KeeperView (FileStore D g)) Refusal) → IsAdopted opened keeper
-      → IfOk opened (λ c. HasCleanDisk (file_state c) → IsOpened c)
-      → IfOk opened (λ c. HasCleanDisk (file_state c) → FindsIn image (file_state c))
-      → (held : Database) → HeldDatabase image held → MayHold false held → OpenedIsClean over_files keeper → OpenedTells over_files keeper
-  tells_file (Ok connection) (Ok keeper) adopted is_opened finds held holds may clean =
-      let up = up_file connection keeper.connection adopted.0 is_opened clean in
-      let now = found_in connection keeper.connection image held adopted.0 up is_opened finds holds in
-      (up, subst (λ b. MayHold b (database over_files keeper)) (sym adopted.1) (subst (MayHold false) (sym now) may))
-  tells_file (Ok connection) (Err refusal) adopted is_opened finds held holds may clean = absurd clean
-  tells_file (Err refusal) (Ok keeper) adopted is_opened finds held holds may clean = absurd adopted
-  tells_file (Err refusal) (Err again) adopted is_opened finds held holds may clean = absurd clean
-
   sees_file : (opened : Result (Held (FileStore D g)) Refusal) (keeper : Result (KeeperView (FileStore D g)) Refusal) → IsAdopted opened keeper
       → IfOk opened (λ c. HasCleanDisk (file_state c) → IsOpened c)
       → IfOk opened (λ c. HasCleanDisk (file_state c) → FindsIn image (file_state c))
@@ -100,14 +80,36 @@ module _ {D : Type 0} {g : Ghosts D} (image : Image) where
   sees_file (Err refusal) (Err again) adopted is_opened finds held holds clean = absurd clean
 
   -- where there was no file, or an empty one, there is no table
-  blank_file : (keeper : Result (KeeperView (FileStore D g)) Refusal) → is_read keeper ≡ false → IfOk keeper (λ k. IsJustOpened image k.connection)
-      → image.db ≡ [] → OpenedIsClean over_files keeper → OpenedTells over_files keeper × (opened_items over_files keeper ≡ [])
-  blank_file (Ok keeper) unread just none clean =
+  blank_schema : (connection : Held (FileStore D g)) → IsJustOpened image connection → image.db ≡ [] → HasCleanDisk (file_state connection) → (file_state connection).now.schema ≡ no_schema
+  blank_schema connection just none clean =
       let opened = just.opened clean in
-      let committed = empty_found image (file_state keeper.connection).committed.trees none (just.finds clean).reads in
-      let schema = empty_schema (database over_files keeper) (opened.1 opened.0.is_open).0 (subst (λ (d : Database). d.trees catalog_tree ≡ []) (sym opened.0.clean) committed.1) in
-      (((clean, opened.0.is_open), inr (unread, schema)), held_none (database over_files keeper) schema)
-  blank_file (Err refusal) unread just none clean = absurd clean
+      let committed = empty_found image (file_state connection).committed.trees none (just.finds clean).reads in
+      empty_schema (file_state connection).now (opened.1 opened.0.is_open).0 (subst (λ (d : Database). d.trees catalog_tree ≡ []) (sym opened.0.clean) committed.1)
+
+  blank_file : (keeper : Result (KeeperView (FileStore D g)) Refusal) → IfOk keeper (λ k. IsJustOpened image k.connection)
+      → image.db ≡ [] → OpenedIsClean over_files keeper → opened_items over_files keeper ≡ []
+  blank_file (Ok keeper) just none clean = held_none (database over_files keeper) (blank_schema keeper.connection just none clean)
+  blank_file (Err refusal) just none clean = absurd clean
+
+  -- it is outside a transaction, and sees a store where the files held one
+  pub rest_file : (connection : Held (FileStore D g)) → IsJustOpened image connection → IsAtRest over_files image connection
+  rest_file connection just = record {
+    is_open = λ clean. (just.opened clean).0.is_open;
+    autocommit = λ clean. (just.opened clean).0.autocommit;
+    sees = λ clean held. elim held [
+      | inl (db, holds, may) ↦
+          subst (MayHold false) (sym (found_in connection connection image db refl (clean, (just.opened clean).0.is_open) just.opened just.finds holds)) may
+      | inr none ↦ inr (refl, blank_schema connection just none clean)
+    ];
+  }
+
+  -- it tells its items where the files held a store
+  tells_file : (keeper : Result (KeeperView (FileStore D g)) Refusal) → is_read keeper ≡ false → IfOk keeper (λ k. IsJustOpened image k.connection)
+      → HeldStore image → OpenedIsClean over_files keeper → OpenedTells over_files keeper
+  tells_file (Ok keeper) unread just held clean =
+      let rest = rest_file keeper.connection just in
+      ((clean, rest.is_open clean), subst (λ b. MayHold b (database over_files keeper)) (sym unread) (rest.sees clean held))
+  tells_file (Err refusal) unread just held clean = absurd clean
 
   unopened_file : (opened : Result (Held (FileStore D g)) Refusal) (keeper : Result (KeeperView (FileStore D g)) Refusal) → IsAdopted opened keeper
       → UnconnectedFor image opened → UnopenedFor image keeper
@@ -118,17 +120,17 @@ module _ {D : Type 0} {g : Ghosts D} (image : Image) where
 
   -- all that is known of it
   pub opened_file : (opened : Result (Held (FileStore D g)) Refusal) (keeper : Result (KeeperView (FileStore D g)) Refusal) → IsAdopted opened keeper → is_read keeper ≡ false
-      → IfOk opened (IsJustOpened image) → (IfOk opened (λ c. c.in_transaction ≡ false) → OpenedLeavesTold over_files keeper) → UnconnectedFor image opened → IsOpenedOver image keeper
+      → IfOk opened (IsJustOpened image) → OpenedLeavesTold over_files keeper → UnconnectedFor image opened → IsOpenedOver image keeper
   opened_file opened keeper adopted unread just rests why =
       let is_opened = if_ok_map opened just (λ c it. it.opened) in
       let finds = if_ok_map opened just (λ c it. it.finds) in
       let connection = adopted_is (IsJustOpened image) opened keeper adopted just in
       record {
         found = found_file opened keeper adopted is_opened finds;
-        rests = quiet_file opened keeper adopted is_opened rests;
-        tells = tells_file opened keeper adopted is_opened finds;
+        rests = rests;
+        tells = tells_file keeper unread connection;
         sees = sees_file opened keeper adopted is_opened finds;
-        blank = blank_file keeper unread connection;
+        blank = blank_file keeper connection;
         connection = connection;
         unopened = unopened_file opened keeper adopted why;
         unread = unread;

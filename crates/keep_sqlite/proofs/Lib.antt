@@ -15,6 +15,7 @@ pub mod Reopens
 pub mod Schemas
 pub mod Selects
 pub mod Sorting
+pub mod Standings
 pub mod Steps
 pub mod Tellings
 pub mod Texts

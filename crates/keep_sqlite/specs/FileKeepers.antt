@@ -19,9 +19,9 @@ use Rattle.mud_world.specs.declared.item.Item.{Item}
 use Rattle.mud_world.specs.declared.item.Put.{Put}
 use Rattle.keep_sqlite.specs.declared.refusal.Refusal.{Refusal}
 use Rattle.keep_sqlite.specs.Refusals.{refusal_of}
-use Rattle.keep_sqlite.specs.Refused.{IsRefused, IsUnopened}
-use Rattle.keep_sqlite.specs.Reopened.{HeldDatabase, ReadsFile}
-use Rattle.keep_sqlite.specs.Rows.{MayHold, MayMake}
+use Rattle.keep_sqlite.specs.Refused.{IsRefused, GivesNoItems}
+use Rattle.keep_sqlite.specs.Reopened.{HeldDatabase, HeldStore, ReadsFile}
+use Rattle.keep_sqlite.specs.Rows.{MayMake}
 use Rattle.keep_sqlite.specs.Telling.{database, told, IsUp, KeeperView, MayBeLeft, Tells}
 
 -- whether an `open` has answered Ok
@@ -80,7 +80,7 @@ module _ {S : Type 0} (g : Ghosts S) where
   -- Why items aren't read: the file couldn't be opened, for this cause; or why the keeper over its connection didn't read them, where the
   -- disk gave back what was written.
   abbrev pub OpenedUnread : Result (KeeperView S) Refusal → Result (KeeperView S) Refusal → Refusal → Type 0
-  OpenedUnread (Ok old) (Ok new) refusal = HasCleanDisk (state g new.connection) → IsUnopened g old new refusal
+  OpenedUnread (Ok old) (Ok new) refusal = HasCleanDisk (state g new.connection) → GivesNoItems g old new refusal
   OpenedUnread (Ok old) (Err again) refusal = ⊥
   OpenedUnread (Err failed) (Ok new) refusal = ⊥
   OpenedUnread (Err failed) (Err again) refusal = (again ≡ failed) × (refusal ≡ failed)
@@ -139,12 +139,12 @@ module _ {D : Type 0} {g : disk.Ghosts D} (image : Image) where
     -- Where it tells its items, they are those that the file held, and a crash leaves just these.
     pub found : OpenedTells over_files keeper → ReadsFile image (opened_items over_files keeper)
     pub rests : OpenedLeavesTold over_files keeper
-    -- It tells them where the file held items, or was a database without a table, and its disk gave back what was written.
-    pub tells : (held : Database) → HeldDatabase image held → MayHold false held → OpenedIsClean over_files keeper → OpenedTells over_files keeper
+    -- It tells them where the file held a store, and its disk gave back what was written.
+    pub tells : HeldStore image → OpenedIsClean over_files keeper → OpenedTells over_files keeper
     -- Whatever database the file held, it is then the one that the keeper sees.
     pub sees : (held : Database) → HeldDatabase image held → OpenedIsClean over_files keeper → OpenedSees over_files keeper held
-    -- Where there was no database file, or an empty one, it tells that there are no items.
-    pub blank : image.db ≡ [] → OpenedIsClean over_files keeper → OpenedTells over_files keeper × (opened_items over_files keeper ≡ [])
+    -- Where there was no database file, or an empty one, there are no items.
+    pub blank : image.db ≡ [] → OpenedIsClean over_files keeper → opened_items over_files keeper ≡ []
     -- Nothing was done with its connection since.
     pub connection : IfOk keeper (λ k. IsJustOpened k.connection)
     -- Where the file couldn't be opened, the system refused it, or the database failed on what it held.

@@ -6,5 +6,6 @@ pub mod Refusals
 pub mod Refused
 pub mod Rows
 pub mod Selections
+pub mod Standing
 pub mod Table
 pub mod Telling

@@ -89,8 +89,8 @@ module _ {S : Type 0} (g : Ghosts S) where
 
   -- An opening is refused since a transaction was begun before, with an error of the database, for want of memory or, as `NoStore`,
   -- where the database neither holds items nor is one without a table that may be made.
-  abbrev pub IsUnopened : KeeperView S → KeeperView S → Refusal → Type 0
-  IsUnopened old new refusal = (IsTrue (state g old.connection).in_transaction × (refusal ≡ Other))
+  abbrev pub GivesNoItems : KeeperView S → KeeperView S → Refusal → Type 0
+  GivesNoItems old new refusal = (IsTrue (state g old.connection).in_transaction × (refusal ≡ Other))
       ⊎ IsUnread (RefusesOpening old.connection new.connection) (MayHold old.has_opened (database g old)) refusal
 
   -- The table was found, and nothing was done; or there was none, and it was made.

@@ -1,5 +1,5 @@
 -- What a keeper over a connection tells.
-use Rattle.std.specs.Prelude.{◌≡◌, ◌⊎◌, ℕ, Bool, List, IsTrue, refl}
+use Rattle.std.specs.Prelude.{◌≡◌, ◌⊎◌, ℕ, Bool, false, List, IsTrue, refl}
 use Rattle.std.specs.Coded.{Coded, code_by, coded×, coded_bool, coded_ℕ}
 use Rattle.sqlite_trees.specs.declared.store.Store.{Ghosts}
 use Rattle.sqlite_trees.specs.Tree.{Trees}
@@ -72,3 +72,12 @@ module _ {S : Type 0} (g : Ghosts S) where
   -- While the keeper tells its items, a crash leaves these and nothing else.
   abbrev pub LeavesTold : KeeperView S → Type 0
   LeavesTold keeper = Tells keeper → (list : List Item) → MayBeLeft keeper list → list ≡ told keeper
+
+  -- While the connection is up, a crash leaves the database that it sees and no other.
+  abbrev pub LeavesNow : KeeperView S → Type 0
+  LeavesNow keeper = IsUp keeper.connection → (db : Database) → IsDatabase db → (state g keeper.connection).may_leave db.trees → db ≡ database keeper
+
+  -- Each database that a crash may leave holds items or has no table.
+  abbrev pub LeavesStore : KeeperView S → Type 0
+  LeavesStore keeper =
+      HasCleanDisk (state g keeper.connection) → (db : Database) → IsDatabase db → (state g keeper.connection).may_leave db.trees → MayHold false db

@@ -1,5 +1,5 @@
 //! A batch of puts as one transaction, with a statement for each put.
-ghost use Rattle.std.specs.Prelude.{◌≡◌, ◌≤◌, ◌⊎◌, true, [], ◌∷◌, length, IsTrue, IfErr, OnOk, OnErr};
+ghost use Rattle.std.specs.Prelude.{◌≡◌, ◌≤◌, ◌⊎◌, false, true, [], ◌∷◌, length, IsTrue, IfErr, OnOk, OnErr};
 ghost use Rattle.mud_world.specs.Items.{put_all};
 ghost use Rattle.sqlite.specs.declared.error.Error.TheVariants.{InvalidQuery};
 ghost use Rattle.sqlite.specs.Held.{state};
@@ -28,6 +28,8 @@ pub(crate) fn keep<S: Alter>(connection: &mut Connection<S>, batch: &[Put]) -> R
         → OnErr result ((state S.Store connection.new).now ≡ (state S.Store connection.old).now) }
     ensures left { HasCleanDisk (state S.Store connection.new)
         → OnOk result ((state S.Store connection.new).committed ≡ (state S.Store connection.new).now) }
+    // No transaction is begun behind it, but where one was before: then nothing was done.
+    ensures ended { (connection.new ≡ connection.old) ⊎ (connection.new.in_transaction ≡ false) }
     ensures refused { HasCleanDisk (state S.Store connection.new) → IfErr result (λ error.
         (IsTrue (state S.Store connection.old).in_transaction × (error ≡ InvalidQuery))
         ⊎ RefusesBatch S.Store (record connection.old { in_transaction = true }) batch.now error) }

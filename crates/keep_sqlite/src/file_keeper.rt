@@ -12,11 +12,12 @@ ghost use Rattle.sqlite_trees.specs.View.{IsClean};
 ghost use Rattle.keep_sqlite.specs.declared.refusal.Refusal.{Refusal};
 ghost use Rattle.keep_sqlite.specs.FileKeepers.{is_read, opened_items, IsAdopted, IsOpenedOver, OpenedIsClean, OpenedLeavesTold, OpenedMayLeave, OpenedMayMake, OpenedRefuses, OpenedRests, OpenedTells, OpenedUnread};
 ghost use Rattle.keep_sqlite.specs.Refusals.{fault_of, refused, told_of};
-ghost use Rattle.keep_sqlite.specs.Reopened.{IsFoundNext};
+ghost use Rattle.keep_sqlite.specs.Reopened.{HeldStore, IsFoundNext, IsHeldNext};
+ghost use Rattle.keep_sqlite.specs.Standing.{IsAtRest};
 
-use crate::SqliteKeeper;
 use crate::first_opening::connect;
 use crate::laws::{leave, told_items_are_left};
+use crate::opened_file::OpenedFile;
 use crate::refusal::{Refusal, count, fault_of};
 use mud_base::Listed;
 use mud_world::{Item, KeepFault, Keeper, Put};
@@ -26,11 +27,12 @@ use std::alloc::Global;
 
 /// A keeper over the file at a path, or the cause why the file couldn't be opened: then each call
 /// fails for it. Why a call failed is told on standard error, in a line with the path; where one fails
-/// for the same cause as the one before, no second time.
-pub struct FileKeeper<S: Alter + Drop> {
+/// for the same cause as the one before, no second time. `S` stands for what the file held when it was
+/// opened.
+pub struct FileKeeper<T: Alter + Drop, S: Start> {
     rt: HostRuntime,
     path: String,
-    keeper: Result<SqliteKeeper<S>, Refusal>,
+    keeper: Result<OpenedFile<T, S>, Refusal>,
     /// How often a call has failed.
     faults: u64,
     /// What standard error was told since the last call that answered Ok.
@@ -38,7 +40,7 @@ pub struct FileKeeper<S: Alter + Drop> {
 }
 
 // It is written out, so that a crate that lets a keeper go doesn't prove again how each part is dropped.
-impl<S: Alter + Drop> Drop for FileKeeper<S> {
+impl<T: Alter + Drop, S: Start> Drop for FileKeeper<T, S> {
     fn drop(self) {
         let FileKeeper {
             rt: _,
@@ -47,23 +49,25 @@ impl<S: Alter + Drop> Drop for FileKeeper<S> {
             faults: _,
             said: _,
         } = self;
-        if let Ok(keeper) = keeper {
+        if let Ok(opened) = keeper {
+            let keeper = opened.keeper;
             drop(keeper.connection);
         }
     }
 }
 
-impl<S: Alter + Drop> FileKeeper<S> {
+impl<T: Alter + Drop, S: Start> FileKeeper<T, S> {
     /// A keeper over the connection to the file at the path, whose items aren't read yet. It takes no
     /// memory.
     pub(crate) fn over(
         rt: &HostRuntime,
         path: String,
-        opened: Result<Connection<S>, Refusal>,
-    ) -> FileKeeper<S>
+        opened: Result<Connection<T>, Refusal>,
+    ) -> FileKeeper<T, S>
+        requires { IfOk opened (IsAtRest T.Store (image_at S.Start)) }
         ensures path { result.path ≡ path }
         ensures adopted { IsAdopted opened result.keeper }
-        ensures rests { IfOk opened (λ connection. connection.in_transaction ≡ false) → OpenedLeavesTold S.Store result.keeper }
+        ensures rests { OpenedLeavesTold T.Store result.keeper }
         ensures faults { result.faults ≡ 0 }
         ensures unread { is_read result.keeper ≡ false }
     {
@@ -77,7 +81,7 @@ impl<S: Alter + Drop> FileKeeper<S> {
     }
 
     /// The keeper over the connection, or the cause why the file couldn't be opened.
-    pub fn into_keeper(self) -> Result<SqliteKeeper<S>, Refusal>
+    pub fn into_keeper(self) -> Result<OpenedFile<T, S>, Refusal>
         ensures { result ≡ self.keeper }
     {
         let FileKeeper {
@@ -92,19 +96,16 @@ impl<S: Alter + Drop> FileKeeper<S> {
 }
 
 /// A keeper over the connection, whose items aren't read yet.
-fn adopted<S: Alter + Drop>(
-    opened: Result<Connection<S>, Refusal>,
-) -> Result<SqliteKeeper<S>, Refusal>
+fn adopted<T: Alter + Drop, S: Start>(
+    opened: Result<Connection<T>, Refusal>,
+) -> Result<OpenedFile<T, S>, Refusal>
+    requires { IfOk opened (IsAtRest T.Store (image_at S.Start)) }
     ensures adopted { IsAdopted opened result }
-    ensures rests { IfOk opened (λ connection. connection.in_transaction ≡ false) → OpenedLeavesTold S.Store result }
+    ensures rests { OpenedLeavesTold T.Store result }
     ensures unread { is_read result ≡ false }
 {
     match opened {
-        Ok(connection) => {
-            let keeper = SqliteKeeper::adopt(connection);
-            told_items_are_left(&keeper);
-            Ok(keeper)
-        }
+        Ok(connection) => Ok(OpenedFile::adopt(connection)),
         Err(refusal) => Err(refusal),
     }
 }
@@ -115,7 +116,7 @@ pub fn open_file<S: Start>(
     rt: &HostRuntime,
     path: String,
     start: S,
-) -> FileKeeper<FileStore<FileFrom<S>>>
+) -> FileKeeper<FileStore<FileFrom<S>>, S>
     ensures opened { IsOpenedOver (image_at S.Start) result.keeper }
     ensures faults { result.faults ≡ 0 }
 {
@@ -124,64 +125,75 @@ pub fn open_file<S: Start>(
 }
 
 /// The store of a keeper whose file was opened, and none of another. Whatever a crash leaves of it at this moment, the next
-/// first opening answers items that the keeper may leave.
-pub fn leave_file<D: Disk + Drop>(keeper: FileKeeper<FileStore<D>>) -> Option<FileStore<D>>
+/// first opening answers items that the keeper may leave: those that it told, where it did.
+pub fn leave_file<D: Disk + Drop, S: Start>(
+    keeper: FileKeeper<FileStore<D>, S>,
+) -> Option<FileStore<D>>
     ensures some { is_some result ≡ is_ok keeper.keeper }
     ensures found { IfSome result (λ store. IsClean (view store)
         → IsFoundNext store (OpenedMayLeave over_files keeper.keeper)) }
+    ensures told { IfSome result (λ store. IsClean (view store) → OpenedTells over_files keeper.keeper
+        → IsFoundNext store (λ list. list ≡ opened_items over_files keeper.keeper)) }
+    // Where the file held a store, the next first opening finds one.
+    ensures held { IfSome result (λ store. IsClean (view store)
+        → HeldStore (image_at S.Start) → IsHeldNext store) }
 {
     match keeper.into_keeper() {
-        Ok(keeper) => Some(leave(keeper)),
+        Ok(opened) => Some(leave(opened.keeper)),
         Err(_) => None,
     }
 }
 
 /// The items of a keeper whose file was opened.
-fn read_opened<S: Alter + Drop>(
+fn read_opened<T: Alter + Drop, S: Start>(
     alloc: Global,
-    keeper: &mut Result<SqliteKeeper<S>, Refusal>,
+    keeper: &mut Result<OpenedFile<T, S>, Refusal>,
 ) -> Result<Listed<Item>, Refusal>
-    ensures items { OpenedTells S.Store keeper.new
-        → IfOk result (λ list. list ≡ opened_items S.Store keeper.new) }
-    ensures same { OpenedTells S.Store keeper.new
-        → opened_items S.Store keeper.new ≡ opened_items S.Store keeper.old }
-    ensures told { OpenedTells S.Store keeper.new → OpenedTells S.Store keeper.old }
-    ensures tells { OpenedIsClean S.Store keeper.new → OnOk result (OpenedTells S.Store keeper.new) }
-    ensures crash { OpenedTells S.Store keeper.old → (list : List Item) → OpenedMayLeave S.Store keeper.new list
-        → OpenedMayLeave S.Store keeper.old list ⊎ (list ≡ opened_items S.Store keeper.old) }
-    ensures rests { OnOk result (OpenedRests S.Store keeper.new) }
+    ensures items { OpenedTells T.Store keeper.new
+        → IfOk result (λ list. list ≡ opened_items T.Store keeper.new) }
+    ensures same { OpenedTells T.Store keeper.new
+        → opened_items T.Store keeper.new ≡ opened_items T.Store keeper.old }
+    ensures told { OpenedTells T.Store keeper.new → OpenedTells T.Store keeper.old }
+    ensures tells { OpenedIsClean T.Store keeper.new → OnOk result (OpenedTells T.Store keeper.new) }
+    ensures crash { OpenedTells T.Store keeper.old → (list : List Item) → OpenedMayLeave T.Store keeper.new list
+        → OpenedMayLeave T.Store keeper.old list ⊎ (list ≡ opened_items T.Store keeper.old) }
+    ensures rests { OnOk result (OpenedRests T.Store keeper.new) }
     ensures opened { OnOk result (is_read keeper.new ≡ true) }
     ensures still { OnErr result (is_read keeper.new ≡ is_read keeper.old) }
-    ensures kept { OpenedMayMake S.Store keeper.old keeper.new }
-    ensures refused { IfErr result (OpenedUnread S.Store keeper.old keeper.new) }
+    ensures kept { OpenedMayMake T.Store keeper.old keeper.new }
+    ensures refused { IfErr result (OpenedUnread T.Store keeper.old keeper.new) }
 {
     match keeper {
-        Ok(keeper) => keeper.read(alloc),
+        Ok(opened) => opened.keeper.read(alloc),
         Err(refusal) => Err(*refusal),
     }
 }
 
 /// Does the puts in the store of a keeper whose file was opened.
-fn keep_opened<S: Alter + Drop>(
-    keeper: &mut Result<SqliteKeeper<S>, Refusal>,
+fn keep_opened<T: Alter + Drop, S: Start>(
+    keeper: &mut Result<OpenedFile<T, S>, Refusal>,
     batch: &[Put],
 ) -> Result<(), Refusal>
     requires opened { IsTrue (is_read keeper.old) }
     requires batch { IsTrue (is_batch batch.now) }
-    ensures told { OpenedTells S.Store keeper.new → OpenedTells S.Store keeper.old }
-    ensures tells { OpenedIsClean S.Store keeper.new → OnOk result (OpenedTells S.Store keeper.new) }
-    ensures ok { OpenedTells S.Store keeper.new
-        → OnOk result (opened_items S.Store keeper.new ≡ put_all (opened_items S.Store keeper.old) batch.now) }
-    ensures err { OpenedTells S.Store keeper.new
-        → OnErr result (opened_items S.Store keeper.new ≡ opened_items S.Store keeper.old) }
-    ensures crash { (list : List Item) → OpenedMayLeave S.Store keeper.new list → OpenedMayLeave S.Store keeper.old list
-        ⊎ (OpenedTells S.Store keeper.old × (list ≡ put_all (opened_items S.Store keeper.old) batch.now)) }
-    ensures rests { OnOk result (OpenedRests S.Store keeper.new) }
+    ensures told { OpenedTells T.Store keeper.new → OpenedTells T.Store keeper.old }
+    ensures tells { OpenedIsClean T.Store keeper.new → OnOk result (OpenedTells T.Store keeper.new) }
+    ensures ok { OpenedTells T.Store keeper.new
+        → OnOk result (opened_items T.Store keeper.new ≡ put_all (opened_items T.Store keeper.old) batch.now) }
+    ensures err { OpenedTells T.Store keeper.new
+        → OnErr result (opened_items T.Store keeper.new ≡ opened_items T.Store keeper.old) }
+    ensures crash { (list : List Item) → OpenedMayLeave T.Store keeper.new list → OpenedMayLeave T.Store keeper.old list
+        ⊎ (OpenedTells T.Store keeper.old × (list ≡ put_all (opened_items T.Store keeper.old) batch.now)) }
+    ensures rests { OnOk result (OpenedRests T.Store keeper.new) }
     ensures opened { is_read keeper.new ≡ is_read keeper.old }
-    ensures refused { IfErr result (OpenedRefuses S.Store keeper.old keeper.new batch.now) }
+    ensures refused { IfErr result (OpenedRefuses T.Store keeper.old keeper.new batch.now) }
 {
     match keeper {
-        Ok(keeper) => keeper.keep(batch),
+        Ok(opened) => {
+            let answer = opened.keeper.keep(batch);
+            told_items_are_left(&opened.keeper);
+            answer
+        }
         Err(refusal) => Err(*refusal),
     }
 }
@@ -211,42 +223,42 @@ fn told<T>(
     }
 }
 
-impl<S: Alter + Drop> Keeper for FileKeeper<S> {
-    ghost tells = { λ keeper. OpenedTells S.Store keeper.keeper };
+impl<T: Alter + Drop, S: Start> Keeper for FileKeeper<T, S> {
+    ghost tells = { λ keeper. OpenedTells T.Store keeper.keeper };
 
-    ghost items = { λ keeper. opened_items S.Store keeper.keeper };
+    ghost items = { λ keeper. opened_items T.Store keeper.keeper };
 
     ghost opened = { λ keeper. is_read keeper.keeper };
 
-    ghost left = { λ keeper list. OpenedMayLeave S.Store keeper.keeper list };
+    ghost left = { λ keeper list. OpenedMayLeave T.Store keeper.keeper list };
 
     ghost faults = { λ keeper. keeper.faults };
 
     #[tactic(auto, using(crate::proofs::Lookups::items_ascend))]
     fn open(&mut self, alloc: Global) -> Result<Listed<Item>, KeepFault>
-        ensures items { OpenedTells S.Store self.new.keeper
-            → IfOk result (λ list. list ≡ opened_items S.Store self.new.keeper) }
-        ensures ordered { OpenedTells S.Store self.new.keeper → IsOrdered (opened_items S.Store self.new.keeper) }
-        ensures same { OpenedTells S.Store self.new.keeper
-            → opened_items S.Store self.new.keeper ≡ opened_items S.Store self.old.keeper }
-        ensures told { OpenedTells S.Store self.new.keeper → OpenedTells S.Store self.old.keeper }
+        ensures items { OpenedTells T.Store self.new.keeper
+            → IfOk result (λ list. list ≡ opened_items T.Store self.new.keeper) }
+        ensures ordered { OpenedTells T.Store self.new.keeper → IsOrdered (opened_items T.Store self.new.keeper) }
+        ensures same { OpenedTells T.Store self.new.keeper
+            → opened_items T.Store self.new.keeper ≡ opened_items T.Store self.old.keeper }
+        ensures told { OpenedTells T.Store self.new.keeper → OpenedTells T.Store self.old.keeper }
         // Where the disk gives back what was written, an Ok tells its items.
-        ensures tells { OpenedIsClean S.Store self.new.keeper → OnOk result (OpenedTells S.Store self.new.keeper) }
-        ensures crash { OpenedTells S.Store self.old.keeper
-            → (list : List Item) → OpenedMayLeave S.Store self.new.keeper list
-            → OpenedMayLeave S.Store self.old.keeper list ⊎ (list ≡ opened_items S.Store self.old.keeper) }
-        ensures rests { OnOk result (OpenedRests S.Store self.new.keeper) }
+        ensures tells { OpenedIsClean T.Store self.new.keeper → OnOk result (OpenedTells T.Store self.new.keeper) }
+        ensures crash { OpenedTells T.Store self.old.keeper
+            → (list : List Item) → OpenedMayLeave T.Store self.new.keeper list
+            → OpenedMayLeave T.Store self.old.keeper list ⊎ (list ≡ opened_items T.Store self.old.keeper) }
+        ensures rests { OnOk result (OpenedRests T.Store self.new.keeper) }
         ensures opened { OnOk result (is_read self.new.keeper ≡ true) }
         ensures still { OnErr result (is_read self.new.keeper ≡ is_read self.old.keeper) }
         ensures count { self.new.faults ≡ counted (items.has_failed result) self.old.faults }
         ensures cause { Counts (items.has_failed result) self.old.faults self.new.faults }
         // Whatever it answers, it made the table in a database with no table, or changed nothing.
-        ensures kept { OpenedMayMake S.Store self.old.keeper self.new.keeper }
+        ensures kept { OpenedMayMake T.Store self.old.keeper self.new.keeper }
         // A file that couldn't be opened is refused for that cause at each call. Of another, while the disk gives
         // back what was written, an Err is want of memory or what the database answered, or a transaction was
         // begun before, or the database holds no items and isn't one without a table.
         ensures refused { IfErr result (λ fault. (refusal : Refusal) × (fault ≡ fault_of refusal)
-            × OpenedUnread S.Store self.old.keeper self.new.keeper refusal) }
+            × OpenedUnread T.Store self.old.keeper self.new.keeper refusal) }
     {
         let answer = read_opened(alloc, &mut self.keeper);
         count(&answer, &mut self.faults);
@@ -257,23 +269,23 @@ impl<S: Alter + Drop> Keeper for FileKeeper<S> {
     fn apply(&mut self, batch: &[Put]) -> Result<(), KeepFault>
         requires opened { IsTrue (is_read self.old.keeper) }
         requires batch { IsTrue (is_batch batch.now) }
-        ensures told { OpenedTells S.Store self.new.keeper → OpenedTells S.Store self.old.keeper }
-        ensures tells { OpenedIsClean S.Store self.new.keeper → OnOk result (OpenedTells S.Store self.new.keeper) }
-        ensures ordered { OpenedTells S.Store self.new.keeper → IsOrdered (opened_items S.Store self.new.keeper) }
-        ensures ok { OpenedTells S.Store self.new.keeper
-            → OnOk result (opened_items S.Store self.new.keeper ≡ put_all (opened_items S.Store self.old.keeper) batch.now) }
-        ensures err { OpenedTells S.Store self.new.keeper
-            → OnErr result (opened_items S.Store self.new.keeper ≡ opened_items S.Store self.old.keeper) }
-        ensures crash { (list : List Item) → OpenedMayLeave S.Store self.new.keeper list → OpenedMayLeave S.Store self.old.keeper list
-            ⊎ (OpenedTells S.Store self.old.keeper × (list ≡ put_all (opened_items S.Store self.old.keeper) batch.now)) }
-        ensures rests { OnOk result (OpenedRests S.Store self.new.keeper) }
+        ensures told { OpenedTells T.Store self.new.keeper → OpenedTells T.Store self.old.keeper }
+        ensures tells { OpenedIsClean T.Store self.new.keeper → OnOk result (OpenedTells T.Store self.new.keeper) }
+        ensures ordered { OpenedTells T.Store self.new.keeper → IsOrdered (opened_items T.Store self.new.keeper) }
+        ensures ok { OpenedTells T.Store self.new.keeper
+            → OnOk result (opened_items T.Store self.new.keeper ≡ put_all (opened_items T.Store self.old.keeper) batch.now) }
+        ensures err { OpenedTells T.Store self.new.keeper
+            → OnErr result (opened_items T.Store self.new.keeper ≡ opened_items T.Store self.old.keeper) }
+        ensures crash { (list : List Item) → OpenedMayLeave T.Store self.new.keeper list → OpenedMayLeave T.Store self.old.keeper list
+            ⊎ (OpenedTells T.Store self.old.keeper × (list ≡ put_all (opened_items T.Store self.old.keeper) batch.now)) }
+        ensures rests { OnOk result (OpenedRests T.Store self.new.keeper) }
         ensures opened { is_read self.new.keeper ≡ is_read self.old.keeper }
         ensures count { self.new.faults ≡ counted (items.has_failed result) self.old.faults }
         ensures cause { Counts (items.has_failed result) self.old.faults self.new.faults }
         // While the disk gives back what was written, an Err is what the database answered, or a transaction was
         // begun before.
         ensures refused { IfErr result (λ fault. (refusal : Refusal) × (fault ≡ fault_of refusal)
-            × OpenedRefuses S.Store self.old.keeper self.new.keeper batch.now refusal) }
+            × OpenedRefuses T.Store self.old.keeper self.new.keeper batch.now refusal) }
     {
         let answer = keep_opened(&mut self.keeper, batch);
         count(&answer, &mut self.faults);

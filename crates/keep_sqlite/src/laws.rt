@@ -10,8 +10,8 @@ ghost use Rattle.sqlite.specs.State.{HasCleanDisk};
 ghost use Rattle.sqlite.specs.Steps.{over_memory};
 ghost use Rattle.keep_sqlite.specs.Table.{no_schema};
 ghost use Rattle.keep_sqlite.specs.Rows.{held_items, items_of, HoldsItems};
-ghost use Rattle.keep_sqlite.specs.Reopened.{IsFoundNext};
-ghost use Rattle.keep_sqlite.specs.Telling.{database, told, IsUp, Leaves, LeavesEither, LeavesTold, MayBeLeft, Tells};
+ghost use Rattle.keep_sqlite.specs.Reopened.{IsFoundNext, IsHeldNext};
+ghost use Rattle.keep_sqlite.specs.Telling.{database, told, IsUp, Leaves, LeavesEither, LeavesNow, LeavesStore, LeavesTold, MayBeLeft, Tells};
 
 use crate::{Refusal, SqliteKeeper};
 use mud_base::Listed;
@@ -28,10 +28,11 @@ pub fn memory_keepers_tell(keeper: &SqliteKeeper<MemStore>)
     let _ = keeper.has_opened();
 }
 
-/// While a keeper tells its items, and no transaction is begun, a crash leaves these and nothing else:
-/// what may be left besides is left by a call that fails, and shuts the connection.
+/// While a keeper tells its items, and no transaction is begun, a crash leaves these and nothing else,
+/// and its database: what may be left besides is left by a call that fails, and shuts the connection.
 pub fn told_items_are_left<S: Alter + Drop>(keeper: &SqliteKeeper<S>)
-    ensures { keeper.now.connection.in_transaction ≡ false → LeavesTold S.Store keeper.now }
+    ensures told { keeper.now.connection.in_transaction ≡ false → LeavesTold S.Store keeper.now }
+    ensures now { keeper.now.connection.in_transaction ≡ false → LeavesNow S.Store keeper.now }
 {
     let _ = keeper.connection.is_autocommit();
     let _ = keeper.connection.schema();
@@ -71,6 +72,7 @@ pub fn leave<D: Disk + Drop>(keeper: SqliteKeeper<FileStore<D>>) -> FileStore<D>
     ensures either { IsClean (view result) → (one other : List Item) → LeavesEither over_files keeper one other
         → IsFoundNext result (λ list. (list ≡ one) ⊎ (list ≡ other)) }
     ensures next { IsClean (view result) → IsFoundNext result (MayBeLeft over_files keeper) }
+    ensures held { IsClean (view result) → LeavesStore over_files keeper → IsHeldNext result }
 {
     keeper.connection.into_store()
 }

@@ -1,17 +1,16 @@
 //! A keeper over a connection.
-ghost use Rattle.std.specs.Prelude.{◌≡◌, true, false, IsTrue, IfOk, IfErr, OnOk, OnErr};
+ghost use Rattle.std.specs.Prelude.{◌≡◌, ◌⊎◌, true, false, IsTrue, IfOk, IfErr, OnOk, OnErr};
 ghost use Rattle.mud_world.specs.Calls.{counted};
 ghost use Rattle.mud_world.specs.Causes.{Counts};
 ghost use Rattle.mud_world.specs.Items.{is_batch, put_all};
 ghost use Rattle.sqlite.specs.Held.{state};
 ghost use Rattle.sqlite.specs.State.{HasCleanDisk};
 ghost use Rattle.keep_sqlite.specs.Refusals.{has_failed};
-ghost use Rattle.keep_sqlite.specs.Refused.{IsRefused, IsUnopened};
+ghost use Rattle.keep_sqlite.specs.Refused.{IsRefused, GivesNoItems};
 ghost use Rattle.keep_sqlite.specs.Rows.{items_of, HoldsItems, MayMake};
 ghost use Rattle.keep_sqlite.specs.Telling.{database, told, IsUp, Leaves, MayBeLeft, MayLeave, MayLeaveMade, Tells};
 
 use crate::batch;
-use crate::listing::list;
 use crate::opening::find;
 use crate::refusal::{Refusal, count, fault_of, refusal_of};
 use mud_base::Listed;
@@ -99,7 +98,7 @@ impl<S: Alter + Drop> SqliteKeeper<S> {
         // While the disk gives back what was written, an Err is want of memory or what the database answered, or
         // a transaction was begun before, or the database holds no items and isn't one without a table.
         ensures refused { HasCleanDisk (state S.Store self.new.connection)
-            → IfErr result (IsUnopened S.Store self.old self.new) }
+            → IfErr result (GivesNoItems S.Store self.old self.new) }
         // An Ok says that the database has our table and no other, and that each row is an item.
         ensures table { Tells S.Store self.new → OnOk result (HoldsItems (database S.Store self.new)) }
         // Whatever it answers, it made the table in a database with no table, or changed nothing.
@@ -107,7 +106,7 @@ impl<S: Alter + Drop> SqliteKeeper<S> {
             → MayMake (database S.Store self.old) (database S.Store self.new) }
         // At each return a crash leaves what it could leave before or, where there was no table, the table
         // without an item,
-        ensures crash { IsUp S.Store self.old.connection → MayLeaveMade S.Store self.old self.new }
+        ensures crash { MayLeaveMade S.Store self.old self.new }
         // and after Ok the items that it answered.
         ensures after { Tells S.Store self.new
             → OnOk result (Leaves S.Store self.new (told S.Store self.new)) }
@@ -132,18 +131,15 @@ impl<S: Alter + Drop> SqliteKeeper<S> {
             → HoldsItems (database S.Store self.old) }
         ensures kept { IsUp S.Store self.new.connection
             → MayMake (database S.Store self.old) (database S.Store self.new) }
-        ensures crash { IsUp S.Store self.old.connection → MayLeaveMade S.Store self.old self.new }
+        ensures crash { MayLeaveMade S.Store self.old self.new }
         ensures left { IsUp S.Store self.new.connection
             → OnOk result ((state S.Store self.new.connection).committed ≡ database S.Store self.new) }
         ensures refused { HasCleanDisk (state S.Store self.new.connection)
-            → IfErr result (IsUnopened S.Store self.old self.new) }
+            → IfErr result (GivesNoItems S.Store self.old self.new) }
     {
         // Within a transaction the items would be some that aren't committed.
         if !self.connection.is_autocommit() {
             return Err(Refusal::Other);
-        }
-        if self.has_opened {
-            return list(alloc, &mut self.connection);
         }
         let items = find(alloc, &mut self.connection)?;
         self.has_opened = true;
@@ -173,6 +169,8 @@ impl<S: Alter + Drop> SqliteKeeper<S> {
         // and after Ok the items after the batch.
         ensures after { Tells S.Store self.new
             → OnOk result (Leaves S.Store self.new (told S.Store self.new)) }
+        // No transaction is begun behind it, but where one was before: then nothing was done.
+        ensures ended { (self.new.connection ≡ self.old.connection) ⊎ (self.new.connection.in_transaction ≡ false) }
     {
         let answer = self.put_in(batch);
         count(&answer, &mut self.faults);
@@ -198,6 +196,7 @@ impl<S: Alter + Drop> SqliteKeeper<S> {
         ensures crash { MayLeave S.Store self.old self.new (put_all (items_of (database S.Store self.old)) batch.now) }
         ensures left { IsUp S.Store self.new.connection
             → OnOk result ((state S.Store self.new.connection).committed ≡ database S.Store self.new) }
+        ensures ended { (self.new.connection ≡ self.old.connection) ⊎ (self.new.connection.in_transaction ≡ false) }
     {
         match batch::keep(&mut self.connection, batch) {
             Ok(()) => Ok(()),

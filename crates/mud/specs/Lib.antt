@@ -1,2 +1,3 @@
+pub mod Runs
 pub mod StoreKeepers
 pub mod TwoRuns

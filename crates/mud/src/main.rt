@@ -1,77 +1,60 @@
-//! The program `mud`: it makes the real door, spool, clock and keeper, and runs the command line
-//! over them.
+//! The program `mud`: it makes the real door, spool and clock, and runs the command line over them and
+//! the store that its words name.
 #![tactic(auto)]
 
+mod named_run;
+pub mod next_run;
 mod store;
+mod store_ends;
 mod store_runs;
+mod told;
 
-ghost use Rattle.std.specs.Prelude.{◌≡◌, IfSome};
-ghost use Rattle.run_words.specs.Operands.{folder_in, store_in};
-ghost use Rattle.run_words.specs.Words.{command_in, words_of};
+ghost use Rattle.std.specs.Prelude.{◌≡◌};
+ghost use Rattle.std.specs.Process.{exit_status};
+ghost use Rattle.run_common.specs.Status.{status_number};
 
-use crate::store_runs::run_store;
-use io_system::{Call, Failure, RealClock, RealDoor, RealSpool};
+use crate::named_run::{behind_name, folder_of, path_of, run_named};
+use crate::told::{
+    tell_door, tell_input, tell_octets, tell_spool, tell_store, tell_waiting, tell_words,
+};
+use io_system::{RealClock, RealDoor, RealSpool};
 use mud_cli::Status;
-use run_words::{USAGE, command_of, folder_word, store_word};
+use run_words::command_of;
 use sqlite::Unknown;
-use std::alloc::{AllocError, Global};
-use std::io::ErrorKind;
+use std::io::{ErrorKind, IsTerminal};
 use std::process::ExitCode;
 use std::rt::Files;
 use std::{env, fs, io};
 
-/// The word of a store that is kept in memory alone, and is empty at the start of each run.
-const IN_MEMORY: &str = ":memory:";
-
 fn main(rt: HostRuntime) -> ExitCode {
-    ExitCode::from(run(rt))
-}
-
-/// Runs the words after the program's name, and answers the status. Where they are no listed line, it
-/// prints the usage text on standard error; whether that succeeds doesn't change the status.
-fn run(rt: HostRuntime) -> u8 {
     let _streams = take_streams(&rt);
-    let status = status_of(rt);
-    if status == Status::Unlisted.number() {
-        let _printed = eprint!(rt; "{}", USAGE);
-    }
-    status
-}
-
-/// The status of a run. A word that isn't UTF-8 is in no listed line.
-fn status_of(rt: HostRuntime) -> u8 {
     match words(&rt) {
-        Ok(words) => run_with_store(rt, words.as_slice()).unwrap_or(Status::NoMemory.number()),
-        Err(error) => {
-            if error.kind() == ErrorKind::OutOfMemory {
-                Status::NoMemory.number()
-            } else {
-                Status::Unlisted.number()
-            }
+        Ok(words) => {
+            run_over(rt, behind_name(words.as_slice())).unwrap_or(code_of(Status::NoMemory))
         }
+        Err(error) => unread(rt, error),
     }
 }
 
-fn words(rt: &HostRuntime) -> io::Result<Vec<String>> {
-    let words = env::args(rt)?.skip(1).collect(rt.alloc())?;
-    Ok(words)
+fn code_of(status: Status) -> ExitCode
+    ensures { exit_status result ≡ status_number status }
+{
+    ExitCode::from(status.number())
 }
 
-/// The words that name the store and the folder of a command. A command without a store keeps
-/// nothing, and one without a folder lists none.
-fn operands(alloc: Global, words: &[String]) -> (&str, &str)
-    ensures store { IfSome (command_in (words_of words.now)) (λ command.
-        IfSome (store_in command (words_of words.now)) (λ word. result.0.now ≡ word)) }
-    ensures folder { IfSome (command_in (words_of words.now)) (λ command.
-        IfSome (folder_in command (words_of words.now)) (λ word. result.1.now ≡ word)) }
-{
-    let Some(command) = command_of(alloc, words) else {
-        return (IN_MEMORY, "");
-    };
-    (
-        store_word(command, words).unwrap_or(IN_MEMORY),
-        folder_word(command, words).unwrap_or(""),
-    )
+/// What the program ends with where its words can't be had. A word that isn't UTF-8 is in no listed line.
+fn unread(rt: HostRuntime, error: io::Error) -> ExitCode {
+    if error.kind() == ErrorKind::OutOfMemory {
+        return code_of(Status::NoMemory);
+    }
+    tell_octets(rt);
+    code_of(Status::Unlisted)
+}
+
+/// The program's name, and the words after it.
+fn words(rt: &HostRuntime) -> io::Result<Vec<String>> {
+    let words = env::args(rt)?.collect(rt.alloc())?;
+    Ok(words)
 }
 
 /// Opens a folder three times, so that each standard stream that is closed is a folder from here on,
@@ -81,56 +64,43 @@ fn take_streams(rt: &HostRuntime) -> [io::Result<<HostRuntime as Files>::File>; 
     [fs::open(rt, "/"), fs::open(rt, "/"), fs::open(rt, "/")]
 }
 
-/// Runs these words. The file of a store is opened before the command begins, and the folder isn't
-/// before the command lists it.
-fn run_with_store(rt: HostRuntime, words: &[String]) -> io::Result<u8> {
+/// Runs these words over the real outside, and answers what the program ends with. The file of a store is
+/// opened before the command begins, and the folder isn't before the command lists it. Nothing stands
+/// between standard input and the door, so no octet is taken of it that the door doesn't ask for.
+fn run_over(rt: HostRuntime, words: &[String]) -> io::Result<ExitCode> {
     let alloc = rt.alloc();
-    let (store, folder) = operands(alloc, words);
-    let folder = String::from_str(alloc, folder)?;
-    let path = if store == IN_MEMORY {
-        None
-    } else {
-        Some(String::from_str(alloc, store)?)
-    };
-    Ok(run_over(rt, words, path, folder))
-}
-
-/// Runs these words over the file of a store, or one in memory, and the path of a folder, and answers
-/// the status. Nothing stands between standard input and the door, so no octet is taken of it that
-/// the door doesn't ask for. Where a read or a write failed, standard error is told why; the keeper of
-/// a file tells it itself. So it is told where `snoop` could learn nothing.
-fn run_over(rt: HostRuntime, words: &[String], path: Option<String>, folder: String) -> u8 {
-    let alloc = rt.alloc();
-    let mut door = RealDoor::new(rt.reader(), io::writer(&rt), rt);
+    let command = command_of(alloc, words);
+    let path = path_of(alloc, words)?;
+    let folder = folder_of(alloc, words)?;
+    let was_there = was_there(rt, &path);
+    let input = rt.reader();
+    if input.is_terminal() {
+        tell_waiting(rt, command);
+    }
+    let mut door = RealDoor::new(input, io::writer(&rt), rt);
     let mut spool = RealSpool::new(rt, folder);
     let mut clock = RealClock::new(rt);
-    let (status, learns_nothing) = run_store(
-        alloc, &rt, words, path, Unknown, &mut door, &mut spool, &mut clock,
-    );
-    if status == Status::DoorFailed.number() {
-        tell(rt, door.failure);
-        tell(rt, spool.failure);
+    let ran = run_named(
+        alloc, &rt, words, Unknown, &mut door, &mut spool, &mut clock,
+    )?;
+    if ran.status == Status::Unlisted.number() {
+        tell_words(rt, words);
     }
-    if learns_nothing {
-        let _printed = eprint!(rt;
-            "mud: no name could be learnt: no address is bound to urn:ietf:params:mud:dns\n"
-        );
+    if ran.status == Status::DoorFailed.number() {
+        tell_door(rt, door.failure);
+        tell_spool(rt, &spool);
     }
-    status
+    if ran.status == Status::Refused.number() {
+        tell_input(rt, command, door.first.as_slice(), door.last.as_slice());
+    }
+    tell_store(rt, command, &path, was_there, &ran);
+    Ok(ran.code)
 }
 
-/// Tells standard error which call failed and why, if one did; whether that succeeds doesn't change the
-/// status.
-fn tell(rt: HostRuntime, failure: Option<Failure>) {
-    let Some(Failure { call, error }) = failure else {
-        return;
-    };
-    let _printed = match call {
-        Call::Bind(port) => eprint!(rt; "mud: port {port} can't be listened on: {error}\n"),
-        Call::Next => eprint!(rt; "mud: no further connection can be taken: {error}\n"),
-        Call::Read => eprint!(rt; "mud: the input can't be read: {error}\n"),
-        Call::Write => eprint!(rt; "mud: the output can't be written: {error}\n"),
-        Call::List => eprint!(rt; "mud: the folder can't be read: {error}\n"),
-        Call::ReadFile => eprint!(rt; "mud: a file of the folder can't be read: {error}\n"),
-    };
+/// Whether there is a file at the path of a store. Where that can't be seen, there is.
+fn was_there(rt: HostRuntime, path: &Option<String>) -> bool {
+    match path {
+        Some(path) => fs::exists(&rt, path.as_str()).unwrap_or(true),
+        None => true,
+    }
 }

@@ -1,58 +1,63 @@
 //! A run over the store that its words name.
-ghost use Rattle.std.specs.Prelude.{◌≡◌, ◌↔◌, None};
+ghost use Rattle.std.specs.Prelude.{◌≡◌, ◌↔◌, None, IfSome};
 ghost use Rattle.run_common.specs.Status.{Is};
 ghost use Rattle.run_common.specs.declared.status.Status.TheVariants.{Unlisted};
 ghost use Rattle.run_words.specs.Words.{command_in, words_of};
-ghost use Rattle.mud_cli.specs.NextRun.{LeavesBehind};
-ghost use Rattle.mud_cli.specs.Runs.{AsTold, Does, LeavesAlone, world};
+ghost use Rattle.mud_cli.specs.Runs.{world};
 ghost use Rattle.keep_sqlite.specs.FromFile.{BeginsWithFile};
 ghost use Rattle.sqlite.specs.WalFiles.{image_at};
+ghost use Rattle.mud.specs.Runs.{BeginsEmpty, RanWords, RunsWords};
 ghost use Rattle.mud.specs.declared.store.StoreKeeper.TheVariants as store;
 
 use crate::store::StoreKeeper;
-use item_codec::kinds::CLASS_KIND;
+use crate::store_ends::{Behind, end_run};
 use keep_sqlite::{FileKeeper, open_file};
 use mud_base::Listed;
-use mud_cli::{Status, mud_main};
+use mud_cli::mud_main;
 use mud_world::{Clock, Door, Keeper, MemoryKeeper, Spool};
-use run_words::{Command, command_of};
 use sqlite::{Alter, FileFrom, FileStore, Start};
 use std::alloc::Global;
 
-/// The key of the item that is the class of DNS servers (RFC 8520, section 4.6).
-const DNS_CLASS_KEY: &[u8] = b"\x01urn:ietf:params:mud:dns";
-
 /// Runs these words over a file that was opened. It is one call over any store, since each call at the
 /// store of a file is proved at length.
-fn run_opened<S: Alter + Drop, D: Door, P: Spool, C: Clock>(
+fn run_opened<T: Alter + Drop, S: Start, D: Door, P: Spool, C: Clock>(
     alloc: Global,
     words: &[String],
-    keeper: FileKeeper<S>,
+    keeper: FileKeeper<T, S>,
     door: &mut D,
     spool: &mut P,
     clock: &mut C,
-) -> (u8, StoreKeeper<MemoryKeeper, FileKeeper<S>>)
+) -> (u8, StoreKeeper<MemoryKeeper, FileKeeper<T, S>>)
     ensures words { Is Unlisted result.0 ↔ (command_in (words_of words.now) ≡ None) }
-    ensures does { AsTold (Does ⟦<StoreKeeper<MemoryKeeper, FileKeeper<S>> as Keeper>⟧
+    ensures runs { RunsWords ⟦<StoreKeeper<MemoryKeeper, FileKeeper<T, S>> as Keeper>⟧
         ⟦<D as Door>⟧ ⟦<P as Spool>⟧ ⟦<C as Clock>⟧ (store.File keeper) result.1
-        (world door.old spool.old clock.old) (world door.new spool.new clock.new) result.0) (words_of words.now) }
-    ensures alone { AsTold (LeavesAlone (store.File keeper) result.1
-        (world door.old spool.old clock.old) (world door.new spool.new clock.new) result.0) (words_of words.now) }
-    ensures left { LeavesBehind ⟦<StoreKeeper<MemoryKeeper, FileKeeper<S>> as Keeper>⟧ (store.File keeper) result.1 }
+        (world door.old spool.old clock.old) (world door.new spool.new clock.new) result.0 (words_of words.now) }
 {
     mud_main(alloc, words, StoreKeeper::File(keeper), door, spool, clock)
 }
 
 /// Runs these words over a store in memory alone, that is empty.
-fn run_in_memory<S: Alter + Drop, D: Door, P: Spool, C: Clock>(
+fn run_in_memory<T: Alter + Drop, S: Start, D: Door, P: Spool, C: Clock>(
     alloc: Global,
     words: &[String],
     door: &mut D,
     spool: &mut P,
     clock: &mut C,
-) -> (u8, StoreKeeper<MemoryKeeper, FileKeeper<S>>) {
-    let keeper = StoreKeeper::Memory(MemoryKeeper::new(alloc, Listed::new(alloc)));
-    mud_main(alloc, words, keeper, door, spool, clock)
+) -> (u8, StoreKeeper<MemoryKeeper, FileKeeper<T, S>>)
+    ensures words { Is Unlisted result.0 ↔ (command_in (words_of words.now) ≡ None) }
+    ensures runs { BeginsEmpty (λ first. RunsWords ⟦<StoreKeeper<MemoryKeeper, FileKeeper<T, S>> as Keeper>⟧
+        ⟦<D as Door>⟧ ⟦<P as Spool>⟧ ⟦<C as Clock>⟧ (store.Memory first) result.1
+        (world door.old spool.old clock.old) (world door.new spool.new clock.new) result.0 (words_of words.now)) }
+{
+    let keeper = MemoryKeeper::new(alloc, Listed::new(alloc));
+    mud_main(
+        alloc,
+        words,
+        StoreKeeper::Memory(keeper),
+        door,
+        spool,
+        clock,
+    )
 }
 
 /// Runs these words over the file at a path, and answers the status and the keeper of the file. `S`
@@ -68,25 +73,21 @@ pub fn run_file<S: Start, D: Door, P: Spool, C: Clock>(
     clock: &mut C,
 ) -> (
     u8,
-    StoreKeeper<MemoryKeeper, FileKeeper<FileStore<FileFrom<S>>>>,
+    StoreKeeper<MemoryKeeper, FileKeeper<FileStore<FileFrom<S>>, S>>,
 )
     ensures words { Is Unlisted result.0 ↔ (command_in (words_of words.now) ≡ None) }
-    // The run begins with the items that the file held, does what the command's record says, leaves alone
-    // what isn't the command's own, and leaves behind what a crash may make of the items that it kept.
-    ensures does { BeginsWithFile (image_at S.Start)
-        (λ first. AsTold (Does ⟦<StoreKeeper<MemoryKeeper, FileKeeper<FileStore<FileFrom<S>>>> as Keeper>⟧
+    // The run begins with the items that the file held.
+    ensures runs { BeginsWithFile (image_at S.Start)
+        (λ first. RunsWords ⟦<StoreKeeper<MemoryKeeper, FileKeeper<FileStore<FileFrom<S>>, S>> as Keeper>⟧
         ⟦<D as Door>⟧ ⟦<P as Spool>⟧ ⟦<C as Clock>⟧ (store.File first) result.1
-        (world door.old spool.old clock.old) (world door.new spool.new clock.new) result.0) (words_of words.now)
-        × AsTold (LeavesAlone (store.File first) result.1
-        (world door.old spool.old clock.old) (world door.new spool.new clock.new) result.0) (words_of words.now)
-        × LeavesBehind ⟦<StoreKeeper<MemoryKeeper, FileKeeper<FileStore<FileFrom<S>>>> as Keeper>⟧ (store.File first) result.1) }
+        (world door.old spool.old clock.old) (world door.new spool.new clock.new) result.0 (words_of words.now)) }
 {
     let keeper = open_file(rt, path, start);
     run_opened(alloc, words, keeper, door, spool, clock)
 }
 
 /// Runs these words over the file at the path, or where there is none over a store in memory alone,
-/// that is empty. It answers the status, and whether `snoop` could learn nothing. It stands over any
+/// that is empty. It answers the status, and what is to be told of the store. It stands over any
 /// `S`, and hands out no keeper, since a caller at the store of a file is proved at length.
 pub fn run_store<S: Start, D: Door, P: Spool, C: Clock>(
     alloc: Global,
@@ -97,34 +98,27 @@ pub fn run_store<S: Start, D: Door, P: Spool, C: Clock>(
     door: &mut D,
     spool: &mut P,
     clock: &mut C,
-) -> (u8, bool) {
-    let (status, keeper) = match path {
-        Some(path) => run_file(alloc, rt, words, path, start, door, spool, clock),
-        None => run_in_memory(alloc, words, door, spool, clock),
-    };
-    (status, learns_nothing(alloc, words, status, keeper))
-}
-
-/// Whether these words are those of `snoop`, it ended with its capture, whole or broken, and no address
-/// is bound to the class of DNS servers.
-fn learns_nothing<K: Keeper>(alloc: Global, words: &[String], status: u8, keeper: K) -> bool {
-    let mut keeper = keeper;
-    is_snoop_to_the_end(alloc, words, status) && binds_no_dns_server(alloc, &mut keeper)
-}
-
-fn is_snoop_to_the_end(alloc: Global, words: &[String], status: u8) -> bool {
-    if status != Status::Done.number() && status != Status::Refused.number() {
-        return false;
+) -> (u8, Behind)
+    ensures words { Is Unlisted result.0 ↔ (command_in (words_of words.now) ≡ None) }
+    ensures file { IfSome path (λ _. BeginsWithFile (image_at S.Start)
+        (λ first. RanWords ⟦<StoreKeeper<MemoryKeeper, FileKeeper<FileStore<FileFrom<S>>, S>> as Keeper>⟧
+        ⟦<D as Door>⟧ ⟦<P as Spool>⟧ ⟦<C as Clock>⟧ (store.File first)
+        (world door.old spool.old clock.old) (world door.new spool.new clock.new) result.0 (words_of words.now))) }
+    ensures memory { path ≡ None → BeginsEmpty
+        (λ first. RanWords ⟦<StoreKeeper<MemoryKeeper, FileKeeper<FileStore<FileFrom<S>>, S>> as Keeper>⟧
+        ⟦<D as Door>⟧ ⟦<P as Spool>⟧ ⟦<C as Clock>⟧ (store.Memory first)
+        (world door.old spool.old clock.old) (world door.new spool.new clock.new) result.0 (words_of words.now)) }
+{
+    match path {
+        Some(path) => {
+            let (status, keeper) = run_file(alloc, rt, words, path, start, door, spool, clock);
+            (status, end_run(alloc, words, status, keeper))
+        }
+        None => {
+            let (status, keeper) = run_in_memory::<FileStore<FileFrom<S>>, S, D, P, C>(
+                alloc, words, door, spool, clock,
+            );
+            (status, end_run(alloc, words, status, keeper))
+        }
     }
-    matches!(command_of(alloc, words), Some(Command::Snoop))
-}
-
-/// Whether the items that a keeper keeps bind no address to the class of DNS servers: a class of no
-/// address is no item. They are read once more for it; where that fails, this isn't known, and false.
-fn binds_no_dns_server<K: Keeper>(alloc: Global, keeper: &mut K) -> bool {
-    let Ok(items) = keeper.open(alloc) else {
-        return false;
-    };
-    !items.as_slice().iter().any(|item| item.kind == CLASS_KIND
-        && item.key.octets() == DNS_CLASS_KEY)
 }

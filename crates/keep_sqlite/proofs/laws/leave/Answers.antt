@@ -2,8 +2,8 @@ use Rattle.std.proofs.Common.{◌≡◌, ◌⊎◌, refl, subst, sym}
 use Rattle.sqlite.specs.Files.{over_files}
 use Rattle.sqlite.specs.Held.{state}
 use Rattle.sqlite.specs.State.{HasCleanDisk}
-use Rattle.keep_sqlite.specs.Telling.{Leaves, LeavesEither, MayBeLeft}
-use Rattle.keep_sqlite.proofs.LeftItems.{left_next}
+use Rattle.keep_sqlite.specs.Telling.{Leaves, LeavesEither, LeavesStore, MayBeLeft}
+use Rattle.keep_sqlite.proofs.LeftItems.{left_next, store_next}
 use Rattle.keep_sqlite.proofs.Reopens.{clean_before, found_next, one_of}
 use Rattle.keep_sqlite.proofs.laws.leave.Goals as goal
 
@@ -30,3 +30,9 @@ returns-clause-next g c clean =
       left = subst (λ keeper. (state over_files keeper.connection).may_leave db.trees) c.keeper.view_is (e.quiet.outcomes db.trees recovered);
       items = refl;
     })
+
+pub returns-clause-held : goal.returns-clause-held
+returns-clause-held g c clean store =
+    let e = c.into_store.ensures in
+    store_next c.into_store.result (e.numbered clean) (e.sound clean) (λ db sound recovered.
+    subst (LeavesStore over_files) (sym c.keeper.view_is) store (clean_before _ _ e.quiet.clean clean) db sound (e.quiet.outcomes db.trees recovered))

@@ -1,9 +1,9 @@
 use Rattle.mud.proofs.store_runs.run_file.Goals as goal
 
-pub returns-clause-does : goal.returns-clause-does
-returns-clause-does g c = record {
+pub returns-clause-runs : goal.returns-clause-runs
+returns-clause-runs g c = record {
   first = c.open_file-keeper.result;
   opened = c.open_file-keeper.ensures.opened;
   fresh = c.open_file-keeper.ensures.faults;
-  does = (c.run_opened.ensures.does, c.run_opened.ensures.alone, c.run_opened.ensures.left);
+  does = c.run_opened.ensures.runs;
 }

@@ -1,4 +1,4 @@
-use Rattle.std.proofs.Common.{inl, ap, subst, sym, ◌∙◌}
+use Rattle.std.proofs.Common.{◌≡◌, ◌⊎◌, false, inl, ap, subst, sym, ◌∙◌}
 use Rattle.std.proofs.lemmas.Result.{on_ok_weaker}
 use Rattle.mud_world.specs.Items.{put_all}
 use Rattle.keep_sqlite.specs.Rows.{items_of, HoldsItems}
@@ -26,3 +26,7 @@ returns-clause-opened g c = ap (λ k. k.has_opened) c.self.view_is ∙ c.put_in-
 pub returns-clause-crash : goal.returns-clause-crash
 returns-clause-crash g c =
     subst (λ k. MayLeave g.S.Store c.args.self.now k (put_all (items_of (database g.S.Store c.args.self.now)) c.args.batch.now)) (sym c.self.view_is) c.put_in-answer.ensures.crash
+
+pub returns-clause-ended : goal.returns-clause-ended
+returns-clause-ended g c =
+    subst (λ k. (k.connection ≡ c.args.self.now.connection) ⊎ (k.connection.in_transaction ≡ false)) (sym c.self.view_is) c.put_in-answer.ensures.ended

@@ -28,7 +28,7 @@ returns-clause-kept g c up =
     subst (λ k. MayMake (database g.S.Store c.args.self.now) (database g.S.Store k)) (sym c.self.view_is) (c.list_items-answer.ensures.kept (subst (λ k. IsUp g.S.Store k.connection) c.self.view_is up))
 
 pub returns-clause-crash : goal.returns-clause-crash
-returns-clause-crash g c up = subst (λ k. MayLeaveMade g.S.Store c.args.self.now k) (sym c.self.view_is) (c.list_items-answer.ensures.crash up)
+returns-clause-crash g c = subst (λ k. MayLeaveMade g.S.Store c.args.self.now k) (sym c.self.view_is) c.list_items-answer.ensures.crash
 
 pub returns-clause-opened : goal.returns-clause-opened
 returns-clause-opened g c = subst (λ k. OnOk c.list_items-answer.result (k.has_opened ≡ true)) (sym c.self.view_is) c.list_items-answer.ensures.opened

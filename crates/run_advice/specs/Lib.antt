@@ -1,0 +1,2 @@
+pub mod UnreadInput
+pub mod WrongWords

@@ -99,6 +99,10 @@ exec sleep 60 </dev/null
 class Ports(Contrib):
     """'listen' at a bridge whose ports come and go, in a network that is made for it."""
 
+    # a name that an interface may have, and that a shell would carry out where it reads it as a word
+    STRANGE = "$(>x)"
+    GONE = "listen: {} is no port of br9 any more, or is down\n"
+
     def setUp(self):
         super().setUp()
         self.space = f"mud-ports-{os.getpid()}"
@@ -112,7 +116,7 @@ class Ports(Contrib):
 
     def port(self, name):
         self.ip("link", "add", name, "type", "veth", "peer", "name", name + "-other")
-        self.ip("link", "set", name, "master", "br9")
+        self.ip("link", "set", name, "master", "br9", "up")
 
     def heard(self):
         """Where captures were begun, in turn."""
@@ -123,17 +127,25 @@ class Ports(Contrib):
         self.port("port1")
         self.port("port2")
         environment = {**os.environ, "PATH": self.folder + ":" + os.environ["PATH"]}
-        words = ["ip", "netns", "exec", self.space, "contrib/listen", "br9"]
-        with subprocess.Popen(words, stderr=subprocess.PIPE, env=environment) as listen:
+        words = ["ip", "netns", "exec", self.space, os.path.abspath("contrib/listen"), "br9"]
+        with subprocess.Popen(words, stderr=subprocess.PIPE, env=environment, cwd=self.folder) as listen:
             program.until(lambda: len(self.heard()) == 3)
             self.note("where it hears at the start", ["br9", "port1", "port2"], sorted(self.heard()))
             self.ip("link", "del", "port1")
-            self.note("what it says of a port that goes", "listen: port1 is no port of br9 any more\n", listen.stderr.readline().decode())
-            self.port("port3")
+            self.note("what it says of a port that goes", self.GONE.format("port1"), listen.stderr.readline().decode())
+            self.port(self.STRANGE)
             self.holds("it hears a port that comes", program.until(lambda: len(self.heard()) == 4))
-            self.note("where it hears then", ["br9", "port1", "port2", "port3"], sorted(self.heard()))
+            self.note("where it hears then", sorted(["br9", "port1", "port2", self.STRANGE]), sorted(self.heard()))
             self.ip("link", "set", "port2", "nomaster")
-            self.note("what it says of a port that is taken out", "listen: port2 is no port of br9 any more\n", listen.stderr.readline().decode())
+            self.note("what it says of a port that is taken out", self.GONE.format("port2"), listen.stderr.readline().decode())
+            self.ip("link", "set", self.STRANGE, "down")
+            self.note("what it says of a port that is down", self.GONE.format(self.STRANGE), listen.stderr.readline().decode())
+            self.holds("what a name says isn't done", not os.path.exists(self.path("x")))
+            self.ip("link", "set", self.STRANGE, "up")
+            self.holds("it hears a port that is up again", program.until(lambda: len(self.heard()) == 5))
+            os.kill(int(read("tcpdump." + self.STRANGE, self.folder)), signal.SIGKILL)
+            self.note("what it says where the capture at a port ends", f"listen: the capture at {self.STRANGE} has ended, and is begun again\n", listen.stderr.readline().decode())
+            self.holds("it hears that port again", program.until(lambda: len(self.heard()) == 6))
             self.note("it goes on", None, listen.poll())
             os.kill(int(read("tcpdump.br9", self.folder)), signal.SIGKILL)
             self.note("where the capture at the bridge ends, its status", 1, listen.wait(timeout=15))

@@ -8,7 +8,7 @@ use Rattle.memchr.specs.Find.{FindsNeedle}
 use Rattle.run_advice.specs.declared.unread_input.Broken.{Broken}
 use Rattle.run_advice.specs.declared.unread_input.Broken.TheVariants.{Magic, LinkType}
 use Rattle.run_advice.specs.declared.unread_input.Input.{Input}
-use Rattle.run_advice.specs.declared.unread_input.Input.TheVariants.{Gzip, Zstandard, NextGeneration, Classic, Other}
+use Rattle.run_advice.specs.declared.unread_input.Input.TheVariants.{Gzip, Zstandard, Bzip2, Xz, NextGeneration, Classic, Other}
 
 -- the magic number of captures with microseconds, or with nanoseconds
 abbrev pub has_magic : ByteOrder → List ℕ → Bool
@@ -25,8 +25,10 @@ abbrev pub input_of : List ℕ → Input
 input_of first =
     if starts_with nat_eq first (31 ∷ 139 ∷ []) then Gzip
     else (if starts_with nat_eq first (40 ∷ 181 ∷ 47 ∷ 253 ∷ []) then Zstandard
+    else (if starts_with nat_eq first (66 ∷ 90 ∷ 104 ∷ []) then Bzip2
+    else (if starts_with nat_eq first (253 ∷ 55 ∷ 122 ∷ 88 ∷ 90 ∷ 0 ∷ []) then Xz
     else (if starts_with nat_eq first (10 ∷ 13 ∷ 13 ∷ 10 ∷ []) then NextGeneration
-    else classic first))
+    else classic first))))
 
 -- whether a text stands in octets
 abbrev pub HasText : List ℕ → List ℕ → Bool → Type 0

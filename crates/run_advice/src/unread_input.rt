@@ -12,6 +12,10 @@ pub enum Input {
     Gzip,
     /// Zstandard's (RFC 8878, section 3.1.1).
     Zstandard,
+    /// Bzip2's: its magic number.
+    Bzip2,
+    /// That of xz (The .xz File Format, section 2.1.1.1).
+    Xz,
     /// A capture in pcapng (draft-ietf-opsawg-pcapng, section 4.1).
     NextGeneration,
     /// A capture in the classic format, with the number of its link type, all four octets counted
@@ -33,6 +37,10 @@ pub enum Broken {
 const GZIP: [u8; 2] = [0x1F, 0x8B];
 
 const ZSTANDARD: [u8; 4] = [0x28, 0xB5, 0x2F, 0xFD];
+
+const BZIP2: [u8; 3] = [b'B', b'Z', b'h'];
+
+const XZ: [u8; 6] = [0xFD, b'7', b'z', b'X', b'Z', 0];
 
 const SECTION_HEADER: [u8; 4] = [0x0A, 0x0D, 0x0D, 0x0A];
 
@@ -77,6 +85,12 @@ pub fn input_of(first: &[u8]) -> Input
     }
     if first.starts_with(&ZSTANDARD) {
         return Input::Zstandard;
+    }
+    if first.starts_with(&BZIP2) {
+        return Input::Bzip2;
+    }
+    if first.starts_with(&XZ) {
+        return Input::Xz;
     }
     if first.starts_with(&SECTION_HEADER) {
         return Input::NextGeneration;

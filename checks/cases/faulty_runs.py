@@ -196,7 +196,7 @@ class Unread(FaultyRuns):
         self.helps("a frame check sequence", said, octets, 1)
 
     def test_packed(self):
-        for tool, unpack, format in (("gzip", "zcat", "gzip"), ("zstd", "zstdcat", "zstd")):
+        for tool, unpack, format in (("gzip", "zcat", "gzip"), ("zstd", "zstdcat", "zstd"), ("bzip2", "bzcat", "bzip2"), ("xz", "xzcat", "xz")):
             if not shutil.which(tool):
                 self.left_out(tool, f"there is no {tool}")
                 continue
@@ -216,9 +216,12 @@ class Unread(FaultyRuns):
         """pcapng of two links: what stands before the first packet of the other link has its lines."""
         octets = SECTION + INTERFACES + packet_of(0) + packet_of(1) + packet_of(0)
         place = len(SECTION + INTERFACES + packet_of(0))
-        said = "the packet at that octet came by an interface of another link than Ethernet; those of the first interface alone: "
+        said = ("the packet at that octet came by an interface of another link than Ethernet: capture at an interface of Ethernet, and not at 'any'; "
+                "where the capture has several, those of the first alone: ")
         line = "tshark -r IN -Y 'frame.interface_id==0' -w OUT"
         self.refused("two links", f"fault LinkType {place}", said + line, octets)
+        alone = SECTION + block(1, struct.pack("<HHI", 276, 0, 0))
+        self.refused("one interface, of another link", f"fault LinkType {len(alone)}", said + line, alone + packet_of(0))
         self.refused("a broken section", "fault Magic 0", "the section of the capture at that octet is damaged", SECTION[:8] + bytes(4) + SECTION[12:])
         self.helps("two links", line, octets, 2)
 

@@ -424,7 +424,7 @@ class Refused(Stores):
         for path, mode in ((self.folder, 0o755), (own, 0o755), (closed + "/read-only", 0o444), (closed, 0o555)):
             os.chmod(path, mode)
         self.addCleanup(os.chmod, closed, 0o755)
-        self.refused("a folder without leave to write", "replay", closed + "/store", program=own, **more)
+        self.refused("a folder without leave to write", "replay", closed + "/store", behind=[f"{closed}/store: no file can be made there"], program=own, **more)
         self.note("a folder without leave to write, files in it", ["read-only"], os.listdir(closed))
         unwritable = f"{closed}/read-only: it can be read and not written: ask a copy of it that may be written"
         for words in (("replay", closed + "/read-only"), ("report", closed + "/read-only", "due"), ("judge", closed + "/read-only")):

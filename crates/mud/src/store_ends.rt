@@ -1,11 +1,11 @@
 //! What stands behind a run over a store: what of it is to be told, and the end of its file.
 use crate::store::StoreKeeper;
 use item_codec::kinds::{CLASS_KIND, THING_KIND};
-use keep_sqlite::FileKeeper;
+use keep_sqlite::{FileKeeper, SqliteKeeper};
 use mud_cli::Status;
 use mud_world::{Item, Keeper, MemoryKeeper};
 use run_words::{Command, command_of};
-use sqlite::{Error, ErrorCode, FileStore, Start};
+use sqlite::{Alter, Connection, Error, ErrorCode, FileStore, Start};
 use sqlite_disk::Disk;
 use std::alloc::Global;
 
@@ -43,6 +43,15 @@ impl Behind {
     }
 }
 
+/// What is looked for in a store behind a run.
+#[derive(Clone, Copy)]
+enum Sought {
+    /// A Thing.
+    Things,
+    /// A Thing, and the class of DNS servers.
+    ThingsAndServers,
+}
+
 /// What is to be told behind a run with this status. Its keeper is let go, and the log of a file is copied
 /// into it.
 pub fn end_run<D: Disk + Drop, S: Start>(
@@ -51,32 +60,72 @@ pub fn end_run<D: Disk + Drop, S: Start>(
     status: u8,
     keeper: StoreKeeper<MemoryKeeper, FileKeeper<FileStore<D>, S>>,
 ) -> Behind {
+    let sought = sought_behind(command_of(alloc, words), status);
+    match keeper {
+        StoreKeeper::Memory(keeper) => end_memory(alloc, sought, keeper),
+        StoreKeeper::File(keeper) => end_file(alloc, sought, keeper),
+    }
+}
+
+/// What is looked for behind a command that judged packets and ended with its capture, whole or broken.
+fn sought_behind(command: Option<Command>, status: u8) -> Option<Sought> {
+    if status != Status::Done.number() && status != Status::Refused.number() {
+        return None;
+    }
+    match command {
+        Some(Command::Snoop) => Some(Sought::ThingsAndServers),
+        Some(Command::Judge | Command::Tally) => Some(Sought::Things),
+        _ => None,
+    }
+}
+
+/// What is to be told of a store in memory.
+fn end_memory(alloc: Global, sought: Option<Sought>, keeper: MemoryKeeper) -> Behind {
+    let Some(sought) = sought else {
+        return Behind::nothing();
+    };
     let mut keeper = keeper;
-    let mut behind = seen_behind(alloc, command_of(alloc, words), status, &mut keeper);
-    behind.unclosed = close(keeper);
+    match keeper.open(alloc) {
+        Ok(items) => seen(sought, items.as_slice()),
+        Err(_) => Behind::nothing(),
+    }
+}
+
+/// What is to be told of a file; where it was opened, its log is copied into it. Of a store that its disk
+/// has shut nothing more is told.
+fn end_file<D: Disk + Drop, S: Start>(
+    alloc: Global,
+    sought: Option<Sought>,
+    keeper: FileKeeper<FileStore<D>, S>,
+) -> Behind {
+    let Ok(opened) = keeper.into_keeper() else {
+        return Behind::nothing();
+    };
+    let mut keeper = SqliteKeeper::adopt(opened.give_back());
+    let mut behind = read_again(alloc, sought, &mut keeper);
+    behind.unclosed = close(keeper.give_back());
     behind
 }
 
-/// What is to be told of the items that a keeper keeps, behind a command that judged packets and ended with
-/// its capture, whole or broken. They are read once more for it; where that fails, nothing is known.
-fn seen_behind<K: Keeper>(
+/// What is to be told of the items of a file, which are read once more for it. Where that fails, nothing
+/// is known, and nothing is told of it.
+fn read_again<T: Alter + Drop>(
     alloc: Global,
-    command: Option<Command>,
-    status: u8,
-    keeper: &mut K,
+    sought: Option<Sought>,
+    keeper: &mut SqliteKeeper<T>,
 ) -> Behind {
-    if status != Status::Done.number() && status != Status::Refused.number() {
+    let Some(sought) = sought else {
         return Behind::nothing();
+    };
+    match keeper.read(alloc) {
+        Ok(items) => seen(sought, items.as_slice()),
+        Err(_) => Behind::nothing(),
     }
-    let learns = match command {
-        Some(Command::Snoop) => true,
-        Some(Command::Judge | Command::Tally) => false,
-        _ => return Behind::nothing(),
-    };
-    let Ok(items) = keeper.open(alloc) else {
-        return Behind::nothing();
-    };
-    let items = items.as_slice();
+}
+
+/// What of these items is to be told.
+fn seen(sought: Sought, items: &[Item]) -> Behind {
+    let learns = matches!(sought, Sought::ThingsAndServers);
     Behind {
         has_no_things: !items.iter().any(is_thing),
         learns_nothing: learns && !items.iter().any(is_dns_class),
@@ -94,23 +143,9 @@ fn is_dns_class(item: &Item) -> bool {
     item.kind == CLASS_KIND && item.key.octets() == DNS_CLASS_KEY
 }
 
-/// Closes what a keeper keeps its items in.
-fn close<D: Disk + Drop, S: Start>(
-    keeper: StoreKeeper<MemoryKeeper, FileKeeper<FileStore<D>, S>>,
-) -> Option<Unclosed> {
-    match keeper {
-        StoreKeeper::Memory(_) => None,
-        StoreKeeper::File(keeper) => close_file(keeper),
-    }
-}
-
-/// Copies the log of a file into it, where it was opened, and closes it. Of a store that its disk has shut
-/// nothing more is told.
-fn close_file<D: Disk + Drop, S: Start>(keeper: FileKeeper<FileStore<D>, S>) -> Option<Unclosed> {
-    let Ok(keeper) = keeper.into_keeper() else {
-        return None;
-    };
-    match keeper.give_back().close() {
+/// Copies the log of a file into it, and closes it.
+fn close<D: Disk + Drop>(connection: Connection<FileStore<D>>) -> Option<Unclosed> {
+    match connection.close() {
         Ok(()) | Err(Error::SqliteFailure(ErrorCode::Closed)) => None,
         Err(Error::SqliteFailure(ErrorCode::DiskFull)) => Some(Unclosed::DiskFull),
         Err(_) => Some(Unclosed::Other),

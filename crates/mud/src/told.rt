@@ -7,6 +7,7 @@ use run_advice::{Broken, Input, Operand, WordFault, broken_of, input_of, word_fa
 use run_words::{Command, USAGE};
 use std::fs::{self, OpenOptions};
 use std::io::ErrorKind;
+use std::path::Path;
 
 /// The link types that captures have where they aren't made at an interface of Ethernet
 /// (the LINKTYPE_ values of tcpdump.org), each with its name and what to do.
@@ -160,10 +161,12 @@ pub fn tell_input(rt: HostRuntime, command: Option<Command>, first: &[u8], last:
     match (input_of(first), broken) {
         (Input::Gzip, _) => tell_packed(rt, "gzip", "zcat", line),
         (Input::Zstandard, _) => tell_packed(rt, "zstd", "zstdcat", line),
+        (Input::Bzip2, _) => tell_packed(rt, "bzip2", "bzcat", line),
+        (Input::Xz, _) => tell_packed(rt, "xz", "xzcat", line),
         (Input::Classic(link), _) => tell_link(rt, link),
         (Input::NextGeneration, Broken::LinkType) => tell(
             rt,
-            "the packet at that octet came by an interface of another link than Ethernet; those of the first interface alone: tshark -r IN -Y 'frame.interface_id==0' -w OUT",
+            "the packet at that octet came by an interface of another link than Ethernet: capture at an interface of Ethernet, and not at 'any'; where the capture has several, those of the first alone: tshark -r IN -Y 'frame.interface_id==0' -w OUT",
         ),
         (Input::NextGeneration, Broken::Magic) => {
             tell(rt, "the section of the capture at that octet is damaged");
@@ -201,7 +204,7 @@ fn tell_link(rt: HostRuntime, link: u32) {
     };
 }
 
-/// Tells what is to be told of the store of a run: that it couldn't be written, that the run made it, or
+/// Tells what is to be told of the store of a run: why it couldn't be opened, that the run made it, or
 /// that it has no Thing; that its log stays beside it; and that nothing could be learnt.
 pub fn tell_store(
     rt: HostRuntime,
@@ -212,7 +215,7 @@ pub fn tell_store(
 ) {
     if let Some(path) = path {
         if ran.status == Status::KeeperFailed.number() {
-            tell_unwritable(rt, path.as_str());
+            tell_unopened(rt, path.as_str());
         }
         if !was_there && is_asking(command, ran.status) {
             tell_of(
@@ -274,7 +277,33 @@ fn tell_of(rt: HostRuntime, path: &str, sentence: &str) {
     let _printed = eprint!(rt; "mud: {}{}\n", path, sentence);
 }
 
-/// Tells of a store that couldn't be opened that it can be read and not written.
+/// Tells of a store that couldn't be opened that its file can be read and not written, or can't be made. What
+/// isn't a file isn't opened, since that may wait, or do something.
+fn tell_unopened(rt: HostRuntime, path: &str) {
+    match fs::metadata(&rt, path) {
+        Ok(found) => {
+            if found.is_file() {
+                tell_unwritable(rt, path);
+            }
+        }
+        Err(error) => {
+            if error.kind() == ErrorKind::NotFound && has_folder(rt, path) {
+                tell_of(rt, path, ": no file can be made there");
+            }
+        }
+    }
+}
+
+/// Whether the folder is there in which a file at this path would be.
+fn has_folder(rt: HostRuntime, path: &str) -> bool {
+    match Path::new(path).parent() {
+        Some(folder) if folder.as_os_str().is_empty() => true,
+        Some(folder) => fs::metadata(&rt, folder).is_ok_and(|found| found.is_dir()),
+        None => false,
+    }
+}
+
+/// Tells of a file that it can be read and not written.
 fn tell_unwritable(rt: HostRuntime, path: &str) {
     let Err(error) = OpenOptions::new().write(true).open(&rt, path) else {
         return;
@@ -284,9 +313,10 @@ fn tell_unwritable(rt: HostRuntime, path: &str) {
         ErrorKind::PermissionDenied | ErrorKind::ReadOnlyFilesystem
     );
     if is_refused && fs::open(&rt, path).is_ok() {
-        let _printed = eprint!(rt;
-            "mud: {}: it can be read and not written: ask a copy of it that may be written\n",
-            path
+        tell_of(
+            rt,
+            path,
+            ": it can be read and not written: ask a copy of it that may be written",
         );
     }
 }

@@ -1,2 +1,3 @@
+pub mod NamedRuns
 pub mod Parts
 pub mod TwoRuns

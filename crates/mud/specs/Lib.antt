@@ -1,3 +1,4 @@
+pub mod NamedRuns
 pub mod Runs
 pub mod StoreKeepers
 pub mod TwoRuns

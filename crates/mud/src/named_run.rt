@@ -1,52 +1,60 @@
 //! A run over what its words name: the store is their second word, and the folder their third.
-ghost use Rattle.std.specs.Prelude.{◌≡◌, ◌↔◌, None, IfOk, IfSome, drop};
+ghost use Rattle.std.specs.Prelude.{◌≡◌, ◌≢◌, ◌↔◌, None, IfOk, IfSome, OnErr, drop, option_map, string_bytes};
 ghost use Rattle.std.specs.Process.{exit_status};
 ghost use Rattle.run_common.specs.Status.{Is};
 ghost use Rattle.run_common.specs.declared.status.Status.TheVariants.{Unlisted};
-ghost use Rattle.run_words.specs.Operands.{folder_in, store_in};
 ghost use Rattle.run_words.specs.Words.{command_in, words_of};
+ghost use Rattle.mud_cli.specs.Runs.{world};
+ghost use Rattle.keep_sqlite.specs.FromFile.{BeginsWithFile};
+ghost use Rattle.sqlite.specs.WalFiles.{image_at};
+ghost use Rattle.mud.specs.declared.store.StoreKeeper.TheVariants as store;
+ghost use Rattle.mud.specs.NamedRuns.{folder_in, path_in};
+ghost use Rattle.mud.specs.Runs.{BeginsEmpty, RanWords};
 
+use crate::store::StoreKeeper;
 use crate::store_ends::Behind;
 use crate::store_runs::run_store;
-use mud_world::{Clock, Door, Spool};
+use keep_sqlite::FileKeeper;
+use mud_world::{Clock, Door, Keeper, MemoryKeeper, Spool};
 use run_words::{command_of, folder_word, store_word};
-use sqlite::Start;
+use sqlite::{FileFrom, FileStore, Start};
 use std::alloc::{AllocError, Global};
 use std::process::ExitCode;
 
 /// The word of a store that is kept in memory alone, and is empty at the start of each run.
 const IN_MEMORY: &str = ":memory:";
 
-/// The words that name the store and the folder of a command. A command without a store keeps
-/// nothing, and one without a folder lists none.
-fn operands(alloc: Global, words: &[String]) -> (&str, &str)
-    ensures store { IfSome (command_in (words_of words.now)) (λ command.
-        IfSome (store_in command (words_of words.now)) (λ word. result.0.now ≡ word)) }
-    ensures folder { IfSome (command_in (words_of words.now)) (λ command.
-        IfSome (folder_in command (words_of words.now)) (λ word. result.1.now ≡ word)) }
+/// The path of the file that is the store of these words, where it is a file.
+#[tactic(auto, using(crate::proofs::NamedRuns::no_path, crate::proofs::NamedRuns::no_file, crate::proofs::NamedRuns::file_named))]
+pub fn path_of(alloc: Global, words: &[String]) -> Result<Option<String>, AllocError>
+    ensures path { IfOk result (λ path. option_map string_bytes path ≡ path_in (words_of words.now)) }
+    ensures wanted { OnErr result (command_in (words_of words.now) ≢ None) }
 {
     let Some(command) = command_of(alloc, words) else {
-        return (IN_MEMORY, "");
+        return Ok(None);
     };
-    (
-        store_word(command, words).unwrap_or(IN_MEMORY),
-        folder_word(command, words).unwrap_or(""),
-    )
-}
-
-/// The path of the file that is the store of these words, where it is a file.
-pub fn path_of(alloc: Global, words: &[String]) -> Result<Option<String>, AllocError> {
-    let (store, _) = operands(alloc, words);
-    if store == IN_MEMORY {
+    let Some(word) = store_word(command, words) else {
+        return Ok(None);
+    };
+    if word == IN_MEMORY {
         return Ok(None);
     }
-    Ok(Some(String::from_str(alloc, store)?))
+    Ok(Some(String::from_str(alloc, word)?))
 }
 
 /// The path of the folder of these words. That of a command without one is empty.
-pub fn folder_of(alloc: Global, words: &[String]) -> Result<String, AllocError> {
-    let (_, folder) = operands(alloc, words);
-    String::from_str(alloc, folder)
+#[tactic(auto, using(crate::proofs::NamedRuns::no_folder, crate::proofs::NamedRuns::without_folder, crate::proofs::NamedRuns::folder_named))]
+pub fn folder_of(alloc: Global, words: &[String]) -> Result<String, AllocError>
+    ensures folder { IfOk result (λ folder. string_bytes folder ≡ folder_in (words_of words.now)) }
+    ensures wanted { OnErr result (command_in (words_of words.now) ≢ None) }
+{
+    let Some(command) = command_of(alloc, words) else {
+        return Ok(String::new(alloc));
+    };
+    match folder_word(command, words) {
+        Some(word) => String::from_str(alloc, word),
+        None => Ok(String::new(alloc)),
+    }
 }
 
 /// The words after the program's name.
@@ -72,6 +80,7 @@ pub struct Ran {
 
 /// Runs these words over the store that they name: a file, or one in memory alone, that is empty. `S`
 /// stands for what the files at the path hold, whatever it is. Without memory for the path nothing is run.
+#[tactic(auto, using(crate::proofs::NamedRuns::some_named, crate::proofs::NamedRuns::none_named))]
 pub fn run_named<S: Start, D: Door, P: Spool, C: Clock>(
     alloc: Global,
     rt: &HostRuntime,
@@ -83,6 +92,16 @@ pub fn run_named<S: Start, D: Door, P: Spool, C: Clock>(
 ) -> Result<Ran, AllocError>
     ensures status { IfOk result (λ ran. ran.status ≡ exit_status ran.code) }
     ensures words { IfOk result (λ ran. Is Unlisted ran.status ↔ (command_in (words_of words.now) ≡ None)) }
+    // It runs over the file that is at the path of its second word, or over an empty store in memory.
+    ensures file { IfOk result (λ ran. IfSome (path_in (words_of words.now)) (λ _. BeginsWithFile (image_at S.Start)
+        (λ first. RanWords ⟦<StoreKeeper<MemoryKeeper, FileKeeper<FileStore<FileFrom<S>>, S>> as Keeper>⟧
+        ⟦<D as Door>⟧ ⟦<P as Spool>⟧ ⟦<C as Clock>⟧ (store.File first)
+        (world door.old spool.old clock.old) (world door.new spool.new clock.new) ran.status (words_of words.now)))) }
+    ensures memory { IfOk result (λ ran. path_in (words_of words.now) ≡ None → BeginsEmpty
+        (λ first. RanWords ⟦<StoreKeeper<MemoryKeeper, FileKeeper<FileStore<FileFrom<S>>, S>> as Keeper>⟧
+        ⟦<D as Door>⟧ ⟦<P as Spool>⟧ ⟦<C as Clock>⟧ (store.Memory first)
+        (world door.old spool.old clock.old) (world door.new spool.new clock.new) ran.status (words_of words.now))) }
+    ensures wanted { OnErr result (command_in (words_of words.now) ≢ None) }
 {
     let path = path_of(alloc, words)?;
     let (status, behind) = run_store(alloc, rt, words, path, start, door, spool, clock);

@@ -143,7 +143,7 @@ class Ports(Contrib):
             self.holds("what a name says isn't done", not os.path.exists(self.path("x")))
             self.ip("link", "set", self.STRANGE, "up")
             self.holds("it hears a port that is up again", program.until(lambda: len(self.heard()) == 5))
-            os.kill(int(read("tcpdump." + self.STRANGE, self.folder)), signal.SIGKILL)
+            os.kill(int(read("tcpdump." + self.STRANGE, self.folder)), signal.SIGPIPE)
             self.note("what it says where the capture at a port ends", f"listen: the capture at {self.STRANGE} has ended, and is begun again\n", listen.stderr.readline().decode())
             self.holds("it hears that port again", program.until(lambda: len(self.heard()) == 6))
             self.note("it goes on", None, listen.poll())

@@ -1,6 +1,6 @@
 -- What the words of a run name.
-use Rattle.std.proofs.Common.{◌≡◌, ℕ, Bool, true, false, List, [], codes, bytes_eq, Option, Some, None, option_map, refl, subst, sym, ap, ◌∙◌}
-use Rattle.std.specs.Prelude.{IfSome, option_and_then, if◌then◌else◌}
+use Rattle.std.proofs.Common.{◌≡◌, ℕ, List, [], Option, Some, None, option_map, refl, subst, sym, ap, ◌∙◌}
+use Rattle.std.specs.Prelude.{IfSome, option_and_then}
 use Rattle.std.specs.Option.{unwrap_or}
 use Rattle.run_words.specs.Operands as operand
 use Rattle.run_words.specs.Words.{command_in}

@@ -354,6 +354,11 @@ class Keeper(FaultyRuns):
     def test_folder(self):
         self.refused(self.folder, UNOPENED)
 
+    def test_pipe(self):
+        """A named pipe isn't waited for."""
+        os.mkfifo(self.path("pipe"))
+        self.refused(self.path("pipe"), UNOPENED)
+
     def test_text(self):
         self.refused(self.put("text", (b"no store\n" * 600)[:5000]), "it is no store, or it is damaged")
 

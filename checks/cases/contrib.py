@@ -147,7 +147,7 @@ class Ports(Contrib):
             self.note("what it says where the capture at a port ends", f"listen: the capture at {self.STRANGE} has ended, and is begun again\n", listen.stderr.readline().decode())
             self.holds("it hears that port again", program.until(lambda: len(self.heard()) == 6))
             self.note("it goes on", None, listen.poll())
-            os.kill(int(read("tcpdump.br9", self.folder)), signal.SIGKILL)
+            os.kill(int(read("tcpdump.br9", self.folder)), signal.SIGPIPE)
             self.note("where the capture at the bridge ends, its status", 1, listen.wait(timeout=15))
             self.note("where the capture at the bridge ends, what it says", b"listen: the capture at br9 has ended", listen.stderr.read().splitlines()[-1])
 
@@ -248,7 +248,7 @@ class Told(Contrib):
         self.note("add, of an unknown hardware address", b"", self.dnsmasq("add", "00:03:00:01:02:00:00:00:00:0c", "2001:db8::78", IAID="1"))
         self.note("another word", b"", self.dnsmasq("init"))
         said = self.dnsmasq("old", mac, "192.0.2.78", MUD_URL="http://x/", TIME_REMAINING="300")
-        self.note("a URL that is none, what dnsmasq may log of it", "dnsmasq-script: the console refused /hear/dhcp: 422 Url Scheme\n", said.decode())
+        self.note("a URL that is none, what dnsmasq may log of it", "dnsmasq-script: the console refused /hear/dhcp: 400 Url Scheme\n", said.decode())
         self.note("the lease", [("192.0.2.78", 300)], [row for row in self.leased(mac) if row[0] == "192.0.2.78"])
 
     def test_feed(self):

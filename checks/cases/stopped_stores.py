@@ -327,7 +327,8 @@ class Killed(Stores):
                 if ended.status != -9:
                     break
                 counts.add(self.behind(f"six requests, killed before {call} {number}", ended, 1))
-        self.note("requests that were answered", set(range(6)), counts)
+        # behind the sixth answer come those by which the log is written into the file
+        self.note("requests that were answered", set(range(7)), counts)
 
 
 class Client(threading.Thread):
@@ -516,14 +517,18 @@ class Full(Stores):
         self.note("where there is room again", (0, wanted, b""), (ended.status, ended.out, ended.errors))
 
     def test_limit_at_the_end(self):
-        self.limit(16)
+        """No file may have more than 8 kB, and the store's has 12."""
+        self.limit(8)
         self.unclosed(self.store)
 
     def test_limit(self):
         self.limit(0)
         self.not_made(self.store)
         self.limit(sum(os.path.getsize(path) for path in (self.store, self.store + "-wal")) // 1024 + 256)
-        self.stays(self.store, self.fills_up(self.store))
+        kept = self.fills_up(self.store)
+        # the log was written into the file at the end of that run: what the first change of a run needs is more than this
+        self.limit(128)
+        self.stays(self.store, kept)
 
     def test_full_disk(self):
         small = self.path("small")

@@ -14,7 +14,8 @@ a failure write and keep. Of each other run this has to hold, by what the failin
                     for the changes behind it, where the failure shut the file. All else is as in a run
                     without these requests or files, and so is the file when it is opened again; but it
                     may hold the first one of them, where the failure came when all was written. A write
-                    or a sync of the store that failed is always told.
+                    or a sync of the store that failed is always told. At the end, where the log is copied
+                    into the file, all is as due, and standard error says that the log stays.
   connection        It is over, with a first part of its answer, and the next one is served.
   port              Status 4: it can't be listened on, or the next connection can't be taken.
 
@@ -49,6 +50,7 @@ LONGEST = 60
 MOST_IN_LOG = 494
 KEEPER = answer(503, '{"rule":"keeper"}')
 ERROR = os.environ.get("ERROR", "EIO")
+UNCLOSED = rb"mud: [^:]*: its log stays beside it: the disk (failed|is full)"
 
 
 class Call:
@@ -127,8 +129,12 @@ class TracedRun(Run):
 
     def is_right(self, scene):
         """A write or a sync of the store that failed has to be told."""
-        is_hidden = self.hit.on == "store" and self.hit.name in KEEPS and scene.is_due(self)
+        is_hidden = self.hit.on == "store" and self.hit.name in KEEPS and scene.is_due(self) and not self.is_unclosed()
         return not is_hidden and scene.holds(self) and scene.says_why(self)
+
+    def is_unclosed(self):
+        """Whether the store failed at the end alone, where its log is copied into its file."""
+        return self.hit.on == "store" and len(self.said) == 1 and re.fullmatch(UNCLOSED, self.said[0]) is not None
 
     def was_silent(self):
         """Whether nothing was written, and nothing read or listed behind the failing call."""
@@ -229,6 +235,8 @@ class Scene:
 
     def says_why(self, run):
         """Whether standard error was told why the run failed: in one line, or one for each cause of a store's."""
+        if run.is_unclosed():
+            return self.is_due(run)
         is_refused = run.hit.on == "store" and (run.status == 7 or run.wrote != self.due().wrote)
         most = 2 if is_refused else int(run.status == 4)
         return (min(most, 1) <= len(run.said) <= most and len(set(run.said)) == len(run.said)

@@ -90,15 +90,15 @@ module _ {K : Type 0} (members : Ghosts K) (keeper begun : K) (tells : Type 0) (
           told = λ now. back (run.told now);
         };
         keeper_steady = λ other. run.keeper_steady other ∙ same_count;
-        runs = λ told tell. inl (record {
+        runs = λ told. inl (record {
           statuses = run.statuses;
-          held = λ before. keeps_none (kept_items members keeper) (subst (KeepsDesk (kept_items members keeper)) new_desk (read before (run.told tell)));
+          held = λ before now. keeps_none (kept_items members keeper) (subst (KeepsDesk (kept_items members keeper)) new_desk (read before (run.told now)));
           ran = run.ran;
           rest = run.rest;
           split = run.split;
           all = run.all;
           more = run.more;
-          are_kept = run.kept.items tell;
+          are_kept = run.kept;
           done = λ zero. subst (λ (text : List ℕ). new.state ≡ put_out text old.state) (text_of packets) (run.done told zero);
           part = λ which. subst (λ (text : List ℕ). WroteFirst text old.state new.state) (text_of packets) (run.part told which);
           none = run.none;
@@ -126,7 +126,7 @@ module _ {K : Type 0} (members : Ghosts K) (keeper begun : K) (tells : Type 0) (
           told = back;
         };
         keeper_steady = λ other. same_count;
-        runs = λ told tell. inr (inl (left told tell));
+        runs = λ told. inr (λ tell. inl (left told tell));
         kept = inl (record { tables = tables; sound = sound; kept = kept });
         same_turns = turns;
         same_reads = reads;
@@ -156,7 +156,7 @@ module _ {K : Type 0} (members : Ghosts K) (keeper after : K) (tells : Type 0) (
       told = run.honest.told;
     };
     keeper_steady = run.leaves.keeper_steady;
-    runs = λ told tell. inr (inr (is_refused members keeper after tells old new status run told tell));
+    runs = λ told. inr (λ tell. inr (is_refused members keeper after tells old new status run told tell));
     kept = is_kept_or run.leaves.kept;
     same_turns = run.same_turns;
     same_reads = run.same_reads;

@@ -10,7 +10,6 @@ use Rattle.run_common.specs.Output.{WroteFirst}
 use Rattle.mud_world.specs.View.{DoorView}
 use Rattle.desk_model.specs.declared.command.Command.{Command}
 use Rattle.desk_model.specs.DeskTables.{DeskTables, IsSound, empty_desk}
-use Rattle.desk_model.specs.Items.{items_of}
 use Rattle.desk_model.specs.Keeping.{KeepsDesk, KeepsSame}
 use Rattle.desk_model.specs.Sessions.{Session, opened}
 use Rattle.desk_model.specs.Kept.{IsKept}
@@ -60,7 +59,7 @@ module _ {K : Type 0} (members : Ghosts K) where
   -- A store that held nothing was drilled from empty lists and an empty history on.
   pub record Drills (packets : ℕ) (keeper returned : K) (old new : DoorView) (status : ℕ) : Type 0 where
     pub statuses : IsOneOf (Done ∷ DoorFailed ∷ NoMemory ∷ KeeperFailed ∷ []) status
-    pub held : Tells members keeper → kept_items members keeper ≡ []
+    pub held : Tells members keeper → Tells members returned → kept_items members keeper ≡ []
     -- Some of the commands ran, in order from the first on, and the lists behind them are kept: all of them with 0 and 4, and with
     -- 7 those before the failed one.
     pub ran : List Command
@@ -68,7 +67,7 @@ module _ {K : Type 0} (members : Ghosts K) where
     pub split : drill_commands packets ≡ ran ++ rest
     pub all : IsOneOf (Done ∷ DoorFailed ∷ []) status → rest ≡ []
     pub more : Is KeeperFailed status → 0 < length rest
-    pub are_kept : kept_items members returned ≡ items_of (session_after (opened empty_desk) ran).desk
+    pub are_kept : IsKept members returned (session_after (opened empty_desk) ran).desk
     -- All lines were written with 0, a first part of them with 4 and 5, and none with 7.
     pub done : Is Done status → new.state ≡ put_out (drill_text packets) old.state
     pub part : IsOneOf (DoorFailed ∷ NoMemory ∷ []) status → WroteFirst (drill_text packets) old.state new.state
@@ -89,8 +88,8 @@ module _ {K : Type 0} (members : Ghosts K) where
     pub honest : RunsHonestly members each_status (IsStoppedWriting old new) (new.writes ≡ old.writes) keeper returned status
     pub keeper_steady : IsNot KeeperFailed status → faults_of members returned ≡ faults_of members keeper
     -- The store held nothing and was drilled, or no command ran: it holds something, or it is refused.
-    pub runs : tells → Tells members returned → Drills packets keeper returned old new status
-        ⊎ (IsFull keeper returned old new status ⊎ IsRefused members keeper returned old.state new.state status)
+    pub runs : tells → Drills packets keeper returned old new status
+        ⊎ (Tells members returned → IsFull keeper returned old new status ⊎ IsRefused members keeper returned old.state new.state status)
     -- Whatever the status, the items of sound tables are kept, but where no desk was opened.
     pub kept : KeepsTables members returned ⊎ IsUnopened members keeper returned status
     -- The door isn't read, no port is bound, and the connection isn't left.

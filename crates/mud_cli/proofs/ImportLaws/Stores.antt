@@ -76,11 +76,11 @@ module _ {K : Type 0} (members : Ghosts K) (keeper : K) (tells : Type 0) (old ne
           told = λ now. back (stays.told now);
         };
         keeper_steady = λ which. unfailed (read_of_import status is which) ∙ same_count;
-        runs = λ told tell. inl (record {
+        runs = λ told. inl (record {
           tables = tables_of desk.state;
           session = session_of ended.state;
           sound = sound;
-          were_kept = λ before. read before (stays.told tell);
+          were_kept = λ before now. read before (stays.told now);
           imports = record {
             statuses = is;
             all = λ which.
@@ -88,7 +88,7 @@ module _ {K : Type 0} (members : Ghosts K) (keeper : K) (tells : Type 0) (old ne
             part = λ which.
                 subst (λ (a : Scene). ImportsPart old.spool.files (in_order (names_of old.spool.files)) a (scene_in (session_of ended.state) new (faults_of members ended.keeper))) first (part told which);
           };
-          are_kept = stays.kept.items tell;
+          are_kept = stays.kept;
         });
         kept = inl (record { tables = tables_of ended.state; sound = sound_after; kept = stays.kept });
         same_files = files;
@@ -110,7 +110,7 @@ module _ {K : Type 0} (members : Ghosts K) (keeper after : K) (tells : Type 0) (
       told = run.honest.told;
     };
     keeper_steady = λ which. run.leaves.keeper_steady (not_seven status which);
-    runs = λ told tell. inr (record { refused = is_refused members keeper after tells old.door new.door status run told tell; same_spool = spool; same_moments = moments; keeper_steady = run.leaves.keeper_steady });
+    runs = λ told. inr (λ tell. record { refused = is_refused members keeper after tells old.door new.door status run told tell; same_spool = spool; same_moments = moments; keeper_steady = run.leaves.keeper_steady });
     kept = is_kept_or run.leaves.kept;
     same_files = λ told. ap (λ (s : SpoolView). s.files) spool;
     same_turns = run.same_turns;

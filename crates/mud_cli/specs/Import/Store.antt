@@ -6,8 +6,8 @@ use Rattle.mud_world.specs.Files.{names_of}
 use Rattle.run_common.specs.Ends.{AreSteady, IsStoppedByDoorOrSpool}
 use Rattle.mud_world.specs.View.{OutsideView}
 use Rattle.desk_model.specs.DeskTables.{DeskTables, IsSound}
-use Rattle.desk_model.specs.Items.{items_of}
 use Rattle.desk_model.specs.Keeping.{KeepsDesk}
+use Rattle.desk_model.specs.Kept.{IsKept}
 use Rattle.desk_model.specs.Sessions.{Session, opened}
 use Rattle.run_desk.specs.Honest.{RunsHonestly}
 use Rattle.run_desk.specs.Store.{IsRefused, IsUnopened, KeepsTables}
@@ -30,14 +30,14 @@ pub record ImportsFolder (tables : DeskTables) (session : Session) (faults fault
   pub part : IsOneOf (DoorFailed ∷ NoMemory ∷ []) status → ImportsPart old.spool.files (in_order (names_of old.spool.files)) (scene_in (opened tables) old faults) (scene_in session new faults_after)
 
 module _ {K : Type 0} (members : Ghosts K) where
-  -- A desk is opened with the tables that were kept, and the tables of its session in the end are kept.
+  -- A desk is opened with the tables that were kept, and the tables of its session in the end are kept: also where a failure shut the keeper.
   pub record OpensAndImports (keeper returned : K) (old new : OutsideView) (status : ℕ) : Type 0 where
     pub tables : DeskTables
     pub session : Session
     pub sound : IsSound tables
-    pub were_kept : Tells members keeper → KeepsDesk (kept_items members keeper) tables
+    pub were_kept : Tells members keeper → Tells members returned → KeepsDesk (kept_items members keeper) tables
     pub imports : ImportsFolder tables session (faults_of members keeper) (faults_of members returned) old new status
-    pub are_kept : kept_items members returned ≡ items_of session.desk
+    pub are_kept : IsKept members returned session.desk
 
   -- No desk is opened: the tables stay, the folder isn't listed, and the clock isn't asked. The keeper fails with 7 alone.
   pub record ImportsNone (keeper returned : K) (old new : OutsideView) (status : ℕ) : Type 0 where
@@ -52,7 +52,7 @@ module _ {K : Type 0} (members : Ghosts K) where
     pub honest : RunsHonestly members each_status (IsStoppedByDoorOrSpool old.door new.door old.spool new.spool) (AreSteady old.door new.door old.spool new.spool) keeper returned status
     pub keeper_steady : IsOneOf (Done ∷ Refused ∷ BadItem ∷ []) status → faults_of members returned ≡ faults_of members keeper
     -- A desk is opened and the folder imported into it, or the store is refused.
-    pub runs : tells → Tells members returned → OpensAndImports keeper returned old new status ⊎ ImportsNone keeper returned old new status
+    pub runs : tells → OpensAndImports keeper returned old new status ⊎ (Tells members returned → ImportsNone keeper returned old new status)
     -- Whatever the status, the items of sound tables are kept, but where no desk was opened.
     pub kept : KeepsTables members returned ⊎ IsUnopened members keeper returned status
     pub same_files : tells → new.spool.files ≡ old.spool.files

@@ -63,25 +63,25 @@ module _ {K : Type 0} (members : Ghosts K) (keeper : K) (tells : Type 0) (old ne
           told = λ now. back (stays.told now);
         };
         keeper_steady = λ which. unfailed (not_six status is which) ∙ same_count;
-        runs = λ told tell. inl (record {
+        runs = λ told. inl (record {
           tables = tables_of desk.state;
           sound = sound;
-          were_kept = λ before. read before (stays.told tell);
+          were_kept = λ before now. read before (stays.told now);
           snoops = record {
             statuses = is;
             all = λ which. record {
               session = session_of ended.state;
-              are_kept = stays.kept.items tell;
+              are_kept = stays.kept;
               scene_is = subst (λ (a : Scene). SnoopsAll a last status) first (all told which);
             };
             part = λ which. record {
               session = session_of ended.state;
-              are_kept = stays.kept.items tell;
+              are_kept = stays.kept;
               scene_is = subst (λ (a : Scene). SnoopsPart a last) first (part told which);
             };
             taken = λ other. record {
               session = session_of ended.state;
-              are_kept = stays.kept.items tell;
+              are_kept = stays.kept;
               scene_is = subst (λ (a : Scene). SnoopsTaken a last) first (taken told other);
             };
           };
@@ -97,7 +97,7 @@ module _ {K : Type 0} (members : Ghosts K) (keeper after : K) (tells : Type 0) (
   refused_snoop run = record {
     honest = reads_honestly members keeper after old new status run.honest run.same_reads;
     keeper_steady = λ which. run.leaves.keeper_steady (not_seven status which);
-    runs = λ told tell. inr (record {
+    runs = λ told. inr (λ tell. record {
       refused = is_refused members keeper after tells old new status run told tell;
       same_reads = run.same_reads;
       keeper_steady = run.leaves.keeper_steady;

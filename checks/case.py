@@ -1,11 +1,16 @@
 """What cases are made of: comparisons that count one each, and a folder and the program for those that run it."""
 import difflib
 import os
+import re
 import shutil
 import tempfile
 import unittest
 
 from checks.texts import HERE
+
+# what standard error may be told of a run that ends with 0 or 3
+TOLD = re.compile("mud: (?:.*: there was no store here, and an empty one was made|.* has no Things, so every packet is let through as unmanaged"
+                  "|no name could be learnt: no address is bound to urn:ietf:params:mud:dns|the (?:capture|input|packet|section) .*)")
 
 
 def differ(wanted, got):
@@ -82,10 +87,14 @@ class ProgramCase(Case):
         return self.path(name)
 
     def ends(self, what, status, wanted, ended):
-        """A run has ended with this status, and has written just this: one comparison."""
+        """A run has ended with this status, has written just this, and of what it told standard error behind 0 or 3 each
+        line is one that docs/REFERENCE.md lists: one comparison."""
         wanted = wanted.encode() if isinstance(wanted, str) else wanted
         with self.subTest(what):
             if wanted != ended.out:
                 raise AssertionError(f"status {ended.status} (wanted is {status}); " + differ(wanted, ended.out))
             if status != ended.status:
                 raise AssertionError(f"wanted status {status}, got {ended.status}")
+            others = [line for line in (ended.errors or b"").decode().splitlines() if not TOLD.fullmatch(line)]
+            if status in (0, 3) and others:
+                raise AssertionError(f"standard error is told {others}")

@@ -16,10 +16,10 @@ use Rattle.run_reports.specs.Export.Store.{ExportsStore}
 use Rattle.run_reports.specs.Store.{ReportsStore}
 use Rattle.run_packets.specs.Snoop.Store.{SnoopsStore}
 use Rattle.run_packets.specs.Tally.Store.{TalliesStore}
-use Rattle.mud_cli.specs.Answers.{reads_input}
 use Rattle.mud_cli.specs.Export.{AsksClockOnce}
 use Rattle.mud_cli.specs.Import.Store.{ImportsStore}
-use Rattle.mud_cli.specs.Promises.{Promises}
+use Rattle.mud_cli.specs.Promises.{AnswersInput, WritesFrames}
+use Rattle.mud_cli.specs.declared.answer.Input.TheVariants.{Message, UsageFile}
 use Rattle.mud_cli.specs.Report.{AsksClock}
 use Rattle.run_common.specs.Status.{Is}
 use Rattle.run_common.specs.declared.status.Status.TheVariants.{KeeperFailed}
@@ -39,43 +39,37 @@ AsTold said words = (command : Command) → command_in words ≡ Some command �
 
 -- ---- What is left alone
 
--- the commands that ask the clock
-abbrev pub asks_clock : Command → Bool
-asks_clock (Hear message) = false
-asks_clock Check = false
-asks_clock Frames = false
-asks_clock Judge = false
-asks_clock Snoop = false
-asks_clock Tally = false
-asks_clock Import = true
-asks_clock Replay = false
-asks_clock (Serve port count) = true
-asks_clock (Report kind) = true
-asks_clock (Export mac) = true
-asks_clock (Drill packets) = false
+-- how a command stands to the outside: whether it opens no store, whether it asks the clock, and whether it neither reads nor
+-- writes where the keeper fails
+pub record Manner : Type 0 where
+  pub is_storeless : Bool
+  pub asks_clock : Bool
+  pub is_silent : Bool
 
--- the commands that neither read nor write where the keeper fails
-abbrev pub is_silent : Command → Bool
-is_silent (Hear message) = false
-is_silent Check = false
-is_silent Frames = false
-is_silent Judge = true
-is_silent Snoop = false
-is_silent Tally = true
-is_silent Import = false
-is_silent Replay = true
-is_silent (Serve port count) = true
-is_silent (Report kind) = true
-is_silent (Export mac) = true
-is_silent (Drill packets) = true
+abbrev manner : Bool → Bool → Bool → Manner
+manner is_storeless asks_clock is_silent = record { is_storeless = is_storeless; asks_clock = asks_clock; is_silent = is_silent }
+
+abbrev pub manner_of : Command → Manner
+manner_of (Hear message) = manner true false false
+manner_of Check = manner true false false
+manner_of Frames = manner true false false
+manner_of Judge = manner false false true
+manner_of Snoop = manner false false false
+manner_of Tally = manner false false true
+manner_of Import = manner false true false
+manner_of Replay = manner false false true
+manner_of (Serve port count) = manner false true true
+manner_of (Report kind) = manner false true true
+manner_of (Export mac) = manner false true true
+manner_of (Drill packets) = manner false false true
 
 -- Whatever the status: a command that opens no store makes no call on the keeper, the folder is for `import` alone, and the clock for
 -- those that ask it. Where the keeper failed, the door isn't called by a silent command.
 pub record LeavesAlone {K D P C : Type 0} (keeper returned : K) (old new : World D P C) (status : ℕ) (command : Command) : Type 0 where
-  pub same_keeper : IsTrue (reads_input command) → returned ≡ keeper
+  pub same_keeper : IsTrue (manner_of command).is_storeless → returned ≡ keeper
   pub same_spool : command ≢ Import → new.spool ≡ old.spool
-  pub same_clock : asks_clock command ≡ false → new.clock ≡ old.clock
-  pub same_door : IsTrue (is_silent command) → Is KeeperFailed status → new.door ≡ old.door
+  pub same_clock : (manner_of command).asks_clock ≡ false → new.clock ≡ old.clock
+  pub same_door : IsTrue (manner_of command).is_silent → Is KeeperFailed status → new.door ≡ old.door
 
 -- ---- What is done
 
@@ -87,9 +81,9 @@ module _ {K : Type 0} (members : Ghosts K)
 
   -- Each command does what its record says: of the door, the keeper, and where it asks the clock, of its moments.
   abbrev pub Does : Command → Type 0
-  Does (Hear message) = Promises doors.tells (Hear message) (doors.view old.door) (doors.view new.door) status
-  Does Check = Promises doors.tells Check (doors.view old.door) (doors.view new.door) status
-  Does Frames = Promises doors.tells Frames (doors.view old.door) (doors.view new.door) status
+  Does (Hear message) = AnswersInput doors.tells (Message message) (doors.view old.door) (doors.view new.door) status
+  Does Check = AnswersInput doors.tells UsageFile (doors.view old.door) (doors.view new.door) status
+  Does Frames = WritesFrames doors.tells (doors.view old.door) (doors.view new.door) status
   Does Judge = JudgesStore members doors.tells keeper returned (doors.view old.door) (doors.view new.door) status
   Does Snoop = SnoopsStore members doors.tells keeper returned (doors.view old.door) (doors.view new.door) status
   Does Tally = TalliesStore members doors.tells keeper returned (doors.view old.door) (doors.view new.door) status

@@ -21,14 +21,12 @@ ghost use Rattle.run_common.specs.Stops.{has_failed};
 
 use crate::import::line::{append_reply, append_skipped};
 use crate::import::name::fetched_in;
-use base_rows::Steps;
 use desk_model::{Command, Reply};
 use mud_base::{Bytes, Memory};
 use mud_desk::Desk;
 use mud_world::{Clock, Door, Keeper, Spool, say};
 use run_common::{Status, Stop};
 use std::alloc::Global;
-use std::sync::ledger::Ledger;
 
 /// The reply, unless it is that memory was wanted.
 fn unless_memory(reply: Reply) -> Result<Reply, Memory>
@@ -44,13 +42,12 @@ fn unless_memory(reply: Reply) -> Result<Reply, Memory>
 /// The reply to the import of the file of the name; none for a name of another form, of which no
 /// file is read and the clock isn't asked.
 #[tactic(auto, unfolding(crate::specs::Import::Scenes::standing))]
-fn reply_to<K: Keeper, L: Ledger, P: Spool, C: Clock>(
+fn reply_to<K: Keeper, P: Spool, C: Clock>(
     alloc: Global,
     desk: &mut Desk<K>,
     spool: &mut P,
     clock: &mut C,
     name: &[u8],
-    steps: &mut Steps<L>,
 ) -> Result<Option<Reply>, Stop>
     requires kept { IsKept ⟦<K as Keeper>⟧ desk.old.keeper (tables_of desk.old.state) }
     ensures stays { StaysKept ⟦<K as Keeper>⟧ desk.old desk.new }
@@ -76,7 +73,7 @@ fn reply_to<K: Keeper, L: Ledger, P: Spool, C: Clock>(
     };
     let octets = spool.read(alloc, name)?;
     let now = clock.now();
-    let reply = unless_memory(desk.command(Command::Import(octets, fetched), now, steps))?;
+    let reply = unless_memory(desk.execute(Command::Import(octets, fetched), now))?;
     Ok(Some(reply))
 }
 
@@ -126,14 +123,13 @@ fn status_with(reply: &Option<Reply>) -> Status
 
 /// Imports the file of the name, or skips the name, and writes its line. The answer is the status
 /// of an import of this name alone.
-pub(crate) fn import_file<K: Keeper, L: Ledger, D: Door, P: Spool, C: Clock>(
+pub(crate) fn import_file<K: Keeper, D: Door, P: Spool, C: Clock>(
     alloc: Global,
     desk: &mut Desk<K>,
     door: &mut D,
     spool: &mut P,
     clock: &mut C,
     name: &[u8],
-    steps: &mut Steps<L>,
 ) -> Result<Status, Stop>
     requires kept { IsKept ⟦<K as Keeper>⟧ desk.old.keeper (tables_of desk.old.state) }
     ensures stays { StaysKept ⟦<K as Keeper>⟧ desk.old desk.new }
@@ -155,7 +151,7 @@ pub(crate) fn import_file<K: Keeper, L: Ledger, D: Door, P: Spool, C: Clock>(
     ensures turns { (D.view door.new).turns ≡ (D.view door.old).turns }
     ensures reads { (D.view door.new).reads ≡ (D.view door.old).reads }
 {
-    let reply = reply_to(alloc, desk, spool, clock, name, steps)?;
+    let reply = reply_to(alloc, desk, spool, clock, name)?;
     say_line(alloc, door, name, &reply)?;
     Ok(status_with(&reply))
 }

@@ -1,6 +1,5 @@
 //! All names of a folder.
 ghost use Rattle.std.specs.Prelude.{◌≡◌, ◌==◌, ℕ, ◌<◌, max, false, [], ◌∷◌, Err, IfOk, OnErr};
-ghost use Rattle.base_rows.specs.Ledgers.{IsBlankOf};
 ghost use Rattle.mud_world.specs.Kept.{faults_of};
 ghost use Rattle.mud_world.specs.Causes.{Counts, Rose};
 ghost use Rattle.mud_world.specs.Files.{names_of};
@@ -17,14 +16,11 @@ ghost use Rattle.run_common.specs.Stops.{has_failed};
 
 use crate::import::file::import_file;
 use crate::import::names::names_in_order;
-use base_rows::Steps;
 use mud_base::Bytes;
 use mud_desk::Desk;
-use mud_world::{Clock, Door, Keeper, Spool};
+use mud_world::{Clock, Door, Keeper, Spool, SpoolFault};
 use run_common::{Status, Stop};
 use std::alloc::Global;
-use std::marker::Brand;
-use std::sync::ledger::{Blank, Ledger};
 
 /// The status that goes before the other.
 fn worse(a: Status, b: Status) -> Status
@@ -35,14 +31,13 @@ fn worse(a: Status, b: Status) -> Status
 
 /// Imports the files of the names, one after the other: the line of each is written before the next
 /// one is looked at.
-fn import_names<K: Keeper, L: Ledger, D: Door, P: Spool, C: Clock>(
+fn import_names<K: Keeper, D: Door, P: Spool, C: Clock>(
     alloc: Global,
     desk: &mut Desk<K>,
     door: &mut D,
     spool: &mut P,
     clock: &mut C,
     names: &[Bytes],
-    steps: &mut Steps<L>,
 ) -> Result<Status, Stop>
     requires kept { IsKept ⟦<K as Keeper>⟧ desk.old.keeper (tables_of desk.old.state) }
     ensures stays { StaysKept ⟦<K as Keeper>⟧ desk.old desk.new }
@@ -65,44 +60,10 @@ fn import_names<K: Keeper, L: Ledger, D: Door, P: Spool, C: Clock>(
 {
     let mut status = Status::Done;
     for name in names {
-        let one = import_file(alloc, desk, door, spool, clock, name.octets(), steps)?;
+        let one = import_file(alloc, desk, door, spool, clock, name.octets())?;
         status = worse(status, one);
     }
     Ok(status)
-}
-
-/// Imports the files of the folder, whose steps are counted on this blank.
-fn import_listed<K: Keeper, L: Ledger, D: Door, P: Spool, C: Clock>(
-    alloc: Global,
-    desk: &mut Desk<K>,
-    door: &mut D,
-    spool: &mut P,
-    clock: &mut C,
-    blank: Blank,
-) -> Result<Status, Stop>
-    requires kept { IsKept ⟦<K as Keeper>⟧ desk.old.keeper (tables_of desk.old.state) }
-    requires blank { IsBlankOf L.name L.parts blank }
-    ensures stays { StaysKept ⟦<K as Keeper>⟧ desk.old desk.new }
-    // No packet is counted for the connections.
-    ensures history { desk.new.state.flows.history ≡ desk.old.state.flows.history }
-    ensures all { D.tells → P.tells → C.tells → IfOk result (λ status. ImportsAll (P.view spool.old).files (in_order (names_of (P.view spool.old).files))
-        (scene desk.old.state (C.moments clock.old) (D.view door.old).state (faults_of ⟦<K as Keeper>⟧ desk.old.keeper))
-        (scene desk.new.state (C.moments clock.new) (D.view door.new).state (faults_of ⟦<K as Keeper>⟧ desk.new.keeper)) (status_number status)) }
-    ensures part { D.tells → P.tells → C.tells → OnErr result (ImportsPart (P.view spool.old).files (in_order (names_of (P.view spool.old).files))
-        (scene desk.old.state (C.moments clock.old) (D.view door.old).state (faults_of ⟦<K as Keeper>⟧ desk.old.keeper))
-        (scene desk.new.state (C.moments clock.new) (D.view door.new).state (faults_of ⟦<K as Keeper>⟧ desk.new.keeper))) }
-    ensures statuses { IfOk result (λ status. IsOneOf (Done ∷ Refused ∷ KeeperFailed ∷ []) (status_number status)) }
-    ensures keeper { IfOk result (λ status. Counts (status_number status == status_number KeeperFailed) (faults_of ⟦<K as Keeper>⟧ desk.old.keeper) (faults_of ⟦<K as Keeper>⟧ desk.new.keeper)) }
-    ensures failed { result ≡ Err Stop.Failed → IsStoppedByDoorOrSpool
-        (D.view door.old) (D.view door.new) (P.view spool.old) (P.view spool.new) }
-    ensures steady { has_failed result ≡ false → AreSteady (D.view door.old) (D.view door.new) (P.view spool.old) (P.view spool.new) }
-    ensures same { P.tells → (P.view spool.new).files ≡ (P.view spool.old).files }
-    ensures turns { (D.view door.new).turns ≡ (D.view door.old).turns }
-    ensures reads { (D.view door.new).reads ≡ (D.view door.old).reads }
-{
-    let names = names_in_order(alloc, spool)?;
-    let mut steps = Steps::<L>::new(blank);
-    import_names(alloc, desk, door, spool, clock, &names, &mut steps)
 }
 
 /// Imports the files of the folder into the desk, in the order of the octets of their names, and
@@ -151,7 +112,12 @@ pub(crate) fn import_files<K: Keeper, D: Door, P: Spool, C: Clock>(
     ensures turns { (D.view door.new).turns ≡ (D.view door.old).turns }
     ensures reads { (D.view door.new).reads ≡ (D.view door.old).reads }
 {
-    match import_listed::<K, Brand, D, P, C>(alloc, desk, door, spool, clock, Blank::new(1)) {
+    let names = match names_in_order(alloc, spool) {
+        Ok(names) => names,
+        Err(SpoolFault::Failed) => return Status::DoorFailed,
+        Err(SpoolFault::Memory) => return Status::NoMemory,
+    };
+    match import_names(alloc, desk, door, spool, clock, &names) {
         Ok(status) => status,
         Err(stop) => stop.status(),
     }

@@ -1,70 +1,46 @@
-use Rattle.std.proofs.Common.{◌≡◌, ℕ, true, refl}
+use Rattle.std.proofs.Common.{true, refl}
 use Rattle.std.proofs.lemmas.Bool.{false≢true}
 use Rattle.run_common.specs.Status.{status_number}
 use Rattle.run_words.specs.declared.command.Command.{Command}
 use Rattle.run_words.specs.declared.command.Command.TheVariants.{Hear, Check, Frames, Judge, Snoop, Tally, Import, Replay, Serve, Report, Export, Drill}
-use Rattle.mud_cli.specs.Answers.{most_of}
 use Rattle.mud_cli.specs.Runs.{Does, LeavesAlone, world}
-use Rattle.mud_cli.proofs.Promised.{asked, no_most, not_capture, promised_of, read_up_to}
+use Rattle.mud_cli.proofs.Promised.{asked, promised_of}
 use Rattle.mud_cli.proofs.run.run_command.Goals as goal
 
 pub returns-in-Hear-clause-does : goal.returns-in-Hear-clause-does
-unfolding most_of
 returns-in-Hear-clause-does g c =
-    let door = g.D.Door in
     let a = c.answer_input.ensures in
     promised_of
     (λ (named : Command). Does g.K.Keeper g.D.Door g.P.Spool g.C.Clock c.args.keeper c.args.keeper
     (world c.args.door.now c.args.spool.now c.args.clock.now) (world c.answer_input.new.door c.args.spool.now c.args.clock.now) (status_number c.answer_input.result) named)
     c.args.command (Hear c.in-Hear.message) c.in-Hear.is
     (record {
-      statuses = a.statuses;
-      fault = a.fault;
-      steady = a.steady;
-      done = a.done;
-      part = a.part;
-      taken = λ tells other. not_capture (Hear c.in-Hear.message) refl other;
-      within = λ tells most is. read_up_to 65536 most (door.view c.args.door.now).state (door.view c.answer_input.new.door).state is (a.within tells);
-      same_turns = a.turns;
+      writes = record { statuses = a.statuses; fault = a.fault; steady = a.steady; done = a.done; part = a.part; same_turns = a.turns };
+      within = a.within;
     })
 
 pub returns-in-Check-clause-does : goal.returns-in-Check-clause-does
-unfolding most_of
 returns-in-Check-clause-does g c =
-    let door = g.D.Door in
     let a = c.answer_input-in-Check.ensures in
     promised_of
     (λ (named : Command). Does g.K.Keeper g.D.Door g.P.Spool g.C.Clock c.args.keeper c.args.keeper
     (world c.args.door.now c.args.spool.now c.args.clock.now) (world c.answer_input-in-Check.new.door c.args.spool.now c.args.clock.now) (status_number c.answer_input-in-Check.result) named)
     c.args.command Check c.in-Check.is
     (record {
-      statuses = a.statuses;
-      fault = a.fault;
-      steady = a.steady;
-      done = a.done;
-      part = a.part;
-      taken = λ tells other. not_capture Check refl other;
-      within = λ tells most is. read_up_to 262145 most (door.view c.args.door.now).state (door.view c.answer_input-in-Check.new.door).state is (a.within tells);
-      same_turns = a.turns;
+      writes = record { statuses = a.statuses; fault = a.fault; steady = a.steady; done = a.done; part = a.part; same_turns = a.turns };
+      within = a.within;
     })
 
 pub returns-in-Frames-clause-does : goal.returns-in-Frames-clause-does
 returns-in-Frames-clause-does g c =
-    let door = g.D.Door in
     let a = c.write_capture.ensures in
     promised_of
     (λ (named : Command). Does g.K.Keeper g.D.Door g.P.Spool g.C.Clock c.args.keeper c.args.keeper
     (world c.args.door.now c.args.spool.now c.args.clock.now) (world c.write_capture.new.door c.args.spool.now c.args.clock.now) (status_number c.write_capture.result) named)
     c.args.command Frames c.in-Frames.is
     (record {
-      statuses = a.statuses;
-      fault = a.fault;
-      steady = a.steady;
-      done = a.done tt tt;
-      part = a.part tt tt;
-      taken = λ tells same. a.taken tt tt tells;
-      within = λ tells most is. no_most most is;
-      same_turns = a.turns;
+      writes = record { statuses = a.statuses; fault = a.fault; steady = a.steady; done = a.done tt tt; part = a.part tt tt; same_turns = a.turns };
+      taken = a.taken tt tt;
     })
 
 pub returns-in-Judge-clause-does : goal.returns-in-Judge-clause-does

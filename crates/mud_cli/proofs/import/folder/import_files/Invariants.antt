@@ -1,4 +1,0 @@
-use Rattle.mud_cli.proofs.import.folder.import_files.Given as goal
-
-abbrev pub ghosts-import_listed : goal.ghosts-import_listed
-ghosts-import_listed g a = record { name = a.blank.name; parts = a.blank.parts }

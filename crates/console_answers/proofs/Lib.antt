@@ -1,6 +1,5 @@
 pub mod KeptLemmas
 pub mod Lengths
-pub mod Phrases
 pub mod Quotes
 pub mod BodiesLaws
 pub mod Parts

@@ -1,7 +1,6 @@
 -- The numbers and phrases of statuses (RFC 9110, 15; RFC 4918, 11.5; the phrases of 413 and 422 are those of RFC 7231,
 -- 6.5.11, and RFC 4918, 11.2).
-use Rattle.std.specs.Prelude.{ℕ, List, codes, Option}
-use Rattle.http.specs.StatusCode.{reason_phrase}
+use Rattle.std.specs.Prelude.{ℕ, List, codes}
 use Rattle.console_answers.specs.declared.status.Status.{Status}
 use Rattle.console_answers.specs.declared.status.Status.TheVariants.{Done, BadRequest, NotFound, MethodNotAllowed, Conflict, LengthRequired, TooLarge, Unprocessable, NotImplemented, Unavailable, NoStorage}
 
@@ -30,7 +29,3 @@ phrase_of Unprocessable = codes "Unprocessable Entity"
 phrase_of NotImplemented = codes "Not Implemented"
 phrase_of Unavailable = codes "Service Unavailable"
 phrase_of NoStorage = codes "Insufficient Storage"
-
--- the phrase that is registered for a number
-unfoldable pub registered : ℕ → Option (List ℕ)
-registered n = reason_phrase n

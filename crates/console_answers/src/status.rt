@@ -1,8 +1,6 @@
 //! The statuses of answers.
-ghost use Rattle.std.specs.Prelude.{◌≡◌, ◌<◌, ◌≤◌, option_map};
+ghost use Rattle.std.specs.Prelude.{◌≡◌, ◌<◌, ◌≤◌};
 ghost use Rattle.console_answers.specs.Statuses as spec;
-
-use http::StatusCode;
 
 /// A status of an answer (RFC 9110, 15; RFC 4918, 11.5).
 #[derive(Clone, Copy)]
@@ -31,19 +29,6 @@ pub enum Status {
     NoStorage,
 }
 
-/// The phrase that is registered for a number.
-#[tactic(auto, unfolding(crate::specs::Statuses::registered))]
-fn registered(number: u16) -> Option<&'static str>
-    requires least { 100 ≤ number }
-    requires most { number < 1000 }
-    ensures { option_map (λ phrase. phrase.now) result ≡ spec.registered number }
-{
-    match StatusCode::from_u16(number) {
-        Ok(code) => code.canonical_reason(),
-        Err(_) => None,
-    }
-}
-
 impl Status {
     /// The number of the status, of three digits.
     #[tactic(auto, unfolding(crate::specs::Statuses::number_of))]
@@ -68,13 +53,22 @@ impl Status {
     }
 
     /// The phrase of the status.
-    #[tactic(auto, using(crate::proofs::Phrases::phrase_is))]
+    #[tactic(auto, unfolding(crate::specs::Statuses::phrase_of))]
     pub(crate) fn phrase(self) -> &'static str
         ensures { result.now ≡ spec.phrase_of self }
     {
-        match registered(self.number()) {
-            Some(phrase) => phrase,
-            None => "",
+        match self {
+            Status::Done => "OK",
+            Status::BadRequest => "Bad Request",
+            Status::NotFound => "Not Found",
+            Status::MethodNotAllowed => "Method Not Allowed",
+            Status::Conflict => "Conflict",
+            Status::LengthRequired => "Length Required",
+            Status::TooLarge => "Payload Too Large",
+            Status::Unprocessable => "Unprocessable Entity",
+            Status::NotImplemented => "Not Implemented",
+            Status::Unavailable => "Service Unavailable",
+            Status::NoStorage => "Insufficient Storage",
         }
     }
 }

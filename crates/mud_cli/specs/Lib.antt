@@ -2,10 +2,8 @@ pub mod Answers
 pub mod Check
 pub mod Frames
 pub mod Hear
-pub mod Import
 pub mod NextRun
 pub mod Promises
 pub mod Report
 pub mod Export
 pub mod Runs
-pub mod Serving

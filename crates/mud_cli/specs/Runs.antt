@@ -8,8 +8,8 @@ use Rattle.mud_world.specs.View.{OutsideView, outside}
 use Rattle.run_words.specs.declared.command.Command.{Command}
 use Rattle.run_words.specs.declared.command.Command.TheVariants.{Hear, Check, Frames, Judge, Snoop, Tally, Import, Replay, Serve, Report, Export, Drill}
 use Rattle.run_words.specs.Words.{command_in}
-use Rattle.mud_cli.specs.Serving.Replay.{ReplaysStore}
-use Rattle.mud_cli.specs.Serving.Serve.{ServesStore, listening, clock_run}
+use Rattle.run_changes.specs.Serving.Replay.{ReplaysStore}
+use Rattle.run_changes.specs.Serving.Serve.{ServesStore, listening, clock_run}
 use Rattle.run_desk.specs.Store.{JudgesStore}
 use Rattle.run_drills.specs.Store.{DrillsStore}
 use Rattle.run_reports.specs.Export.Store.{ExportsStore}
@@ -17,7 +17,7 @@ use Rattle.run_reports.specs.Store.{ReportsStore}
 use Rattle.run_packets.specs.Snoop.Store.{SnoopsStore}
 use Rattle.run_packets.specs.Tally.Store.{TalliesStore}
 use Rattle.mud_cli.specs.Export.{AsksClockOnce}
-use Rattle.mud_cli.specs.Import.Store.{ImportsStore}
+use Rattle.run_changes.specs.Import.Store.{ImportsStore}
 use Rattle.mud_cli.specs.Promises.{AnswersInput, WritesFrames}
 use Rattle.mud_cli.specs.declared.answer.Input.TheVariants.{Message, UsageFile}
 use Rattle.mud_cli.specs.Report.{AsksClock}

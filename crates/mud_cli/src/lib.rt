@@ -5,10 +5,8 @@ mod answer;
 mod check;
 mod frames;
 mod hear;
-mod import;
 pub mod laws;
 mod run;
-mod serving;
 
 pub use run::mud_main;
 pub use run_common::Status;

@@ -8,12 +8,10 @@ ghost use Rattle.mud_cli.specs.Runs.{AsTold, Does, LeavesAlone, world};
 
 use crate::answer::{Input, answer_input};
 use crate::frames::FrameLines;
-use crate::import::store::import_store;
-use crate::serving::replay::replay_store;
-use crate::serving::serve::serve_store;
 use mud_desk::Loaded;
 use mud_world::{Clock, Door, Keeper, Spool};
 use run_captures::write_capture;
+use run_changes::{import_store, replay_store, serve_store};
 use run_common::Status;
 use run_desk::judge_store;
 use run_drills::run_drill;

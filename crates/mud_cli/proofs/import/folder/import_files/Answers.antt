@@ -1,9 +1,0 @@
-use Rattle.std.proofs.Common.{refl, inl}
-use Rattle.mud_cli.proofs.ImportLaws.Folders.{part_of_none}
-use Rattle.mud_cli.proofs.import.folder.import_files.Goals as goal
-
-pub returns-in-Err-Failed-clause-part : goal.returns-in-Err-Failed-clause-part
-returns-in-Err-Failed-clause-part g c = λ d p k which. part_of_none _ _ _ _ refl (inl refl) refl refl
-
-pub returns-in-Err-Memory-clause-part : goal.returns-in-Err-Memory-clause-part
-returns-in-Err-Memory-clause-part g c = λ d p k which. part_of_none _ _ _ _ refl (inl refl) refl refl

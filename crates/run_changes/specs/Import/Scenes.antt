@@ -1,0 +1,14 @@
+-- Where the import into a desk stands, and its scene.
+use Rattle.std.specs.Prelude.{ℕ, List}
+use Rattle.mud_world.specs.Door.{DoorState}
+use Rattle.mud_desk.specs.DeskState.{DeskState, session_of}
+use Rattle.run_changes.specs.Import.Imports.{Standing}
+use Rattle.run_changes.specs.Import.Runs.{Scene}
+
+-- where a desk stands
+unfoldable pub standing : DeskState → List ℕ → Standing
+standing state moments = record { session = session_of state; moments = moments }
+
+-- the scene of a desk
+unfoldable pub scene : DeskState → List ℕ → DoorState → ℕ → Scene
+scene state moments door faults = record { standing = standing state moments; door = door; faults = faults }

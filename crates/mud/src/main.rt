@@ -7,18 +7,17 @@ pub mod next_run;
 mod store;
 mod store_ends;
 mod store_runs;
-mod told;
 
 ghost use Rattle.std.specs.Prelude.{◌≡◌};
 ghost use Rattle.std.specs.Process.{exit_status};
 ghost use Rattle.run_common.specs.Status.{status_number};
 
 use crate::named_run::{behind_name, folder_of, path_of, run_named};
-use crate::told::{
-    tell_door, tell_input, tell_octets, tell_spool, tell_store, tell_waiting, tell_words,
-};
 use io_system::{RealClock, RealDoor, RealSpool};
 use mud_cli::Status;
+use run_advice::{
+    tell_door, tell_input, tell_octets, tell_spool, tell_store, tell_waiting, tell_words,
+};
 use run_words::command_of;
 use sqlite::Unknown;
 use std::io::{ErrorKind, IsTerminal};
@@ -93,7 +92,7 @@ fn run_over(rt: HostRuntime, words: &[String]) -> io::Result<ExitCode> {
     if ran.status == Status::Refused.number() {
         tell_input(rt, command, door.first.as_slice(), door.last.as_slice());
     }
-    tell_store(rt, command, &path, was_there, &ran);
+    tell_store(rt, command, &path, was_there, ran.status, &ran.behind);
     Ok(ran.code)
 }
 

@@ -12,10 +12,10 @@ ghost use Rattle.mud.specs.NamedRuns.{folder_in, path_in};
 ghost use Rattle.mud.specs.Runs.{BeginsEmpty, RanWords};
 
 use crate::store::StoreKeeper;
-use crate::store_ends::Behind;
 use crate::store_runs::run_store;
 use keep_sqlite::FileKeeper;
 use mud_world::{Clock, Door, Keeper, MemoryKeeper, Spool};
+use run_advice::Behind;
 use run_words::{command_of, folder_word, store_word};
 use sqlite::{FileFrom, FileStore, Start};
 use std::alloc::{AllocError, Global};

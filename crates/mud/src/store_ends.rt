@@ -2,8 +2,9 @@
 use crate::store::StoreKeeper;
 use item_codec::kinds::{CLASS_KIND, THING_KIND};
 use keep_sqlite::{FileKeeper, SqliteKeeper};
-use mud_cli::Status;
 use mud_world::{Item, Keeper, MemoryKeeper};
+use run_advice::{Behind, Unclosed};
+use run_common::Status;
 use run_words::{Command, command_of};
 use sqlite::{Alter, Connection, Error, ErrorCode, FileStore, Start};
 use sqlite_disk::Disk;
@@ -11,37 +12,6 @@ use std::alloc::Global;
 
 /// The key of the item that is the class of DNS servers (RFC 8520, section 4.6).
 const DNS_CLASS_KEY: &[u8] = b"\x01urn:ietf:params:mud:dns";
-
-/// Why the log of a store wasn't copied into its file.
-#[derive(Clone, Copy)]
-pub enum Unclosed {
-    /// The disk is full.
-    DiskFull,
-    /// The disk failed, or the store was shut before.
-    Other,
-}
-
-/// What is to be told of the store behind a run.
-#[derive(Clone, Copy)]
-pub struct Behind {
-    /// Packets were judged, and the store has no Thing.
-    pub has_no_things: bool,
-    /// `snoop` could learn nothing: no address is bound to the class of DNS servers.
-    pub learns_nothing: bool,
-    /// The log of the store stays beside its file.
-    pub unclosed: Option<Unclosed>,
-}
-
-impl Behind {
-    /// There is nothing to be told.
-    pub fn nothing() -> Behind {
-        Behind {
-            has_no_things: false,
-            learns_nothing: false,
-            unclosed: None,
-        }
-    }
-}
 
 /// What is looked for in a store behind a run.
 #[derive(Clone, Copy)]
@@ -53,7 +23,7 @@ enum Sought {
 }
 
 /// What is to be told behind a run with this status. Its keeper is let go, and the log of a file is copied
-/// into it.
+/// into it. It makes one call over the store of a file, since each is proved at length.
 pub fn end_run<D: Disk + Drop, S: Start>(
     alloc: Global,
     words: &[String],
@@ -61,10 +31,12 @@ pub fn end_run<D: Disk + Drop, S: Start>(
     keeper: StoreKeeper<MemoryKeeper, FileKeeper<FileStore<D>, S>>,
 ) -> Behind {
     let sought = sought_behind(command_of(alloc, words), status);
-    match keeper {
-        StoreKeeper::Memory(keeper) => end_memory(alloc, sought, keeper),
-        StoreKeeper::File(keeper) => end_file(alloc, sought, keeper),
+    let (behind, connection) = look_through(alloc, sought, keeper);
+    let mut behind = behind;
+    if let Some(connection) = connection {
+        behind.unclosed = unclosed_by(connection.close());
     }
+    behind
 }
 
 /// What is looked for behind a command that judged packets and ended with its capture, whole or broken.
@@ -79,8 +51,20 @@ fn sought_behind(command: Option<Command>, status: u8) -> Option<Sought> {
     }
 }
 
-/// What is to be told of a store in memory.
-fn end_memory(alloc: Global, sought: Option<Sought>, keeper: MemoryKeeper) -> Behind {
+/// What is to be told of what a keeper keeps, and of a file that was opened the connection. Of a store that
+/// its disk has shut nothing more is told.
+fn look_through<T: Alter + Drop, S: Start>(
+    alloc: Global,
+    sought: Option<Sought>,
+    keeper: StoreKeeper<MemoryKeeper, FileKeeper<T, S>>,
+) -> (Behind, Option<Connection<T>>) {
+    match keeper {
+        StoreKeeper::Memory(keeper) => (look_through_memory(alloc, sought, keeper), None),
+        StoreKeeper::File(keeper) => look_through_file(alloc, sought, keeper),
+    }
+}
+
+fn look_through_memory(alloc: Global, sought: Option<Sought>, keeper: MemoryKeeper) -> Behind {
     let Some(sought) = sought else {
         return Behind::nothing();
     };
@@ -91,20 +75,17 @@ fn end_memory(alloc: Global, sought: Option<Sought>, keeper: MemoryKeeper) -> Be
     }
 }
 
-/// What is to be told of a file; where it was opened, its log is copied into it. Of a store that its disk
-/// has shut nothing more is told.
-fn end_file<D: Disk + Drop, S: Start>(
+fn look_through_file<T: Alter + Drop, S: Start>(
     alloc: Global,
     sought: Option<Sought>,
-    keeper: FileKeeper<FileStore<D>, S>,
-) -> Behind {
+    keeper: FileKeeper<T, S>,
+) -> (Behind, Option<Connection<T>>) {
     let Ok(opened) = keeper.into_keeper() else {
-        return Behind::nothing();
+        return (Behind::nothing(), None);
     };
     let mut keeper = SqliteKeeper::adopt(opened.give_back());
-    let mut behind = read_again(alloc, sought, &mut keeper);
-    behind.unclosed = close(keeper.give_back());
-    behind
+    let behind = read_again(alloc, sought, &mut keeper);
+    (behind, Some(keeper.give_back()))
 }
 
 /// What is to be told of the items of a file, which are read once more for it. Where that fails, nothing
@@ -143,9 +124,9 @@ fn is_dns_class(item: &Item) -> bool {
     item.kind == CLASS_KIND && item.key.octets() == DNS_CLASS_KEY
 }
 
-/// Copies the log of a file into it, and closes it.
-fn close<D: Disk + Drop>(connection: Connection<FileStore<D>>) -> Option<Unclosed> {
-    match connection.close() {
+/// Whether the log of a file wasn't copied into it, and why, by the answer of its closing.
+fn unclosed_by(closed: Result<(), Error>) -> Option<Unclosed> {
+    match closed {
         Ok(()) | Err(Error::SqliteFailure(ErrorCode::Closed)) => None,
         Err(Error::SqliteFailure(ErrorCode::DiskFull)) => Some(Unclosed::DiskFull),
         Err(_) => Some(Unclosed::Other),

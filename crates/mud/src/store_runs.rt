@@ -10,11 +10,12 @@ ghost use Rattle.mud.specs.Runs.{BeginsEmpty, RanWords, RunsWords};
 ghost use Rattle.mud.specs.declared.store.StoreKeeper.TheVariants as store;
 
 use crate::store::StoreKeeper;
-use crate::store_ends::{Behind, end_run};
+use crate::store_ends::end_run;
 use keep_sqlite::{FileKeeper, open_file};
 use mud_base::Listed;
 use mud_cli::mud_main;
 use mud_world::{Clock, Door, Keeper, MemoryKeeper, Spool};
+use run_advice::Behind;
 use sqlite::{Alter, FileFrom, FileStore, Start};
 use std::alloc::Global;
 

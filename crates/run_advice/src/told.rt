@@ -1,9 +1,9 @@
 //! What standard error is told of a run. Whether it takes that changes nothing.
-use crate::named_run::Ran;
-use crate::store_ends::Unclosed;
+use crate::behind::{Behind, Unclosed};
+use crate::unread_input::{Broken, Input, broken_of, input_of};
+use crate::wrong_words::{Operand, WordFault, word_fault};
 use io_system::{Call, Failure, RealSpool};
-use mud_cli::Status;
-use run_advice::{Broken, Input, Operand, WordFault, broken_of, input_of, word_fault};
+use run_common::Status;
 use run_words::{Command, USAGE};
 use std::fs::{self, OpenOptions};
 use std::io::ErrorKind;
@@ -211,26 +211,27 @@ pub fn tell_store(
     command: Option<Command>,
     path: &Option<String>,
     was_there: bool,
-    ran: &Ran,
+    status: u8,
+    behind: &Behind,
 ) {
     if let Some(path) = path {
-        if ran.status == Status::KeeperFailed.number() {
+        if status == Status::KeeperFailed.number() {
             tell_unopened(rt, path.as_str());
         }
-        if !was_there && is_asking(command, ran.status) {
+        if !was_there && is_asking(command, status) {
             tell_of(
                 rt,
                 path.as_str(),
                 ": there was no store here, and an empty one was made",
             );
-        } else if ran.behind.has_no_things {
+        } else if behind.has_no_things {
             tell_of(
                 rt,
                 path.as_str(),
                 " has no Things, so every packet is let through as unmanaged",
             );
         }
-        match ran.behind.unclosed {
+        match behind.unclosed {
             Some(Unclosed::DiskFull) => {
                 tell_of(
                     rt,
@@ -248,7 +249,7 @@ pub fn tell_store(
             None => {}
         }
     }
-    if ran.behind.learns_nothing {
+    if behind.learns_nothing {
         tell(
             rt,
             "no name could be learnt: no address is bound to urn:ietf:params:mud:dns",

@@ -26,7 +26,7 @@ CHAPTERS = {
     "Lists for a switch": "rule_export",
     "The engine": "acl_rows acl_compile acl_buckets acl_changes table_laws thing_book bind_book file_cache desk_books mud_desk",
     "The console": "http_requests console_routes console_bodies console_answers console_listings console",
-    "The program": "text_values run_words run_common run_captures run_desk run_packets run_reports run_drills mud_cli",
+    "The program": "text_values run_words run_common run_captures run_desk run_packets run_reports run_drills run_changes mud_cli",
     "Other": "",
 }
 

@@ -32,6 +32,7 @@ use acl_rows::RuleView;
 use base_rows::Steps;
 use desk_model::types::command_fits;
 use desk_model::{Command, Reply};
+use frame_view::view;
 use mud_base::{Direction, Mac, Memory, Moment, Prefix};
 use mud_world::{KeepFault, Keeper};
 use packet_judge::Verdict;
@@ -224,10 +225,7 @@ impl<K: Keeper> Desk<K> {
         ensures most { (b : ℕ) → length self.old.state.books.compiled.rows < 2 ^ b
             → steps.new ≤ steps.old + steps_on (ruling_steps self.old.state.books.compiled b) (tables_of self.old.state).tables.things (frame_of frame.now) }
     {
-        match self.state.judge(frame, stamp, steps) {
-            Ok(judged) => Ok(judged.verdict),
-            Err(Memory) => Err(Memory),
-        }
+        self.state.judge(&view(frame), stamp, steps)
     }
 
     /// The verdict on a frame, and what it was read as: [`Desk::judge`], whose steps nobody asks for.

@@ -1,5 +1,5 @@
 //! All that the desk holds beside its keeper.
-ghost use Rattle.std.specs.Prelude.{◌≡◌, ℕ, ◌+◌, ◌-◌, ◌^◌, ◌<◌, ◌≤◌, max, false, Ok, Err, IfOk, IfErr, OnOk, IsOkAnd, length};
+ghost use Rattle.std.specs.Prelude.{◌≡◌, ℕ, List, ◌+◌, ◌-◌, ◌^◌, ◌<◌, ◌≤◌, max, false, Ok, Err, IfOk, IfErr, OnOk, IsOkAnd, length};
 ghost use Rattle.base_rows.specs.Ledgers.{IsBlankOf};
 ghost use Rattle.acl_changes.specs.Patch.{rows_apart};
 ghost use Rattle.acl_compile.specs.Plans.{IsKept};
@@ -178,54 +178,47 @@ impl State {
         }
     }
 
-    /// The verdict on a frame, at the later of the session's moment and this one, which is made the
-    /// moment of the session, and what the frame was read as. A TCP packet with a ruling that is
-    /// forwarded is noted for the connections, once. [`Memory`] comes only for such a packet, and leaves
-    /// all as it was. The steps are those of the rulings: one for each endpoint of a packet that is a
-    /// Thing and isn't held.
+    /// The verdict on a frame that was read, at the later of the session's moment and this one, which is
+    /// made the moment of the session. A TCP packet with a ruling that is forwarded is noted for the
+    /// connections, once. [`Memory`] comes only for such a packet, and leaves all as it was. The steps are
+    /// those of the rulings: one for each endpoint of a packet that is a Thing and isn't held.
     #[tactic(auto, unfolding(crate::specs::DeskState::tables_of))]
-    pub(crate) fn judge<'a, L: Ledger>(
+    pub(crate) fn judge<L: Ledger>(
         &mut self,
-        frame: &'a [u8],
+        frame: &Frame<'_>,
         stamp: Moment,
         steps: &mut Steps<L>,
-    ) -> Result<JudgedFrame<'a>, Memory>
-        ensures judged { IfOk result (λ judged. AllowedVerdict (session_of self.old) stamp frame.now (Ok judged.verdict) (session_of self.new)) }
-        ensures wanting { IfErr result (λ memory. AllowedVerdict (session_of self.old) stamp frame.now (Err memory) (session_of self.new)) }
-        ensures read { IfOk result (λ judged. judged.frame ≡ frame_of frame.now) }
+    ) -> Result<Verdict, Memory>
+        ensures judged { (octets : List ℕ) → frame.now ≡ frame_of octets → AllowedVerdict (session_of self.old) stamp octets result (session_of self.new) }
         ensures books { self.new.books ≡ self.old.books }
-        ensures least { steps.old + steps_on (rows_read self.old.books.compiled) (tables_of self.old).tables.things (frame_of frame.now) ≤ steps.new }
+        ensures least { steps.old + steps_on (rows_read self.old.books.compiled) (tables_of self.old).tables.things frame.now ≤ steps.new }
         ensures most { (b : ℕ) → length self.old.books.compiled.rows < 2 ^ b
-            → steps.new ≤ steps.old + steps_on (ruling_steps self.old.books.compiled b) (tables_of self.old).tables.things (frame_of frame.now) }
+            → steps.new ≤ steps.old + steps_on (ruling_steps self.old.books.compiled b) (tables_of self.old).tables.things frame.now }
     {
         let now = later(self.moment, stamp);
-        let view = view(frame);
-        let verdict = packet_judge::judge(&view, &self.rules_at(now), steps);
-        note(&mut self.flows, &view, &verdict, now)?;
+        let verdict = packet_judge::judge(frame, &self.rules_at(now), steps);
+        note(&mut self.flows, frame, &verdict, now)?;
         self.moment = now;
-        Ok(JudgedFrame {
-            verdict,
-            frame: view,
-        })
+        Ok(verdict)
     }
 
     /// [`State::judge`], whose steps are counted on this blank.
-    fn judge_on<'a, L: Ledger>(
+    fn judge_on<L: Ledger>(
         &mut self,
-        frame: &'a [u8],
+        frame: &Frame<'_>,
         stamp: Moment,
         blank: Blank,
-    ) -> Result<JudgedFrame<'a>, Memory>
+    ) -> Result<Verdict, Memory>
         requires blank { IsBlankOf L.name L.parts blank }
-        ensures judged { IfOk result (λ judged. AllowedVerdict (session_of self.old) stamp frame.now (Ok judged.verdict) (session_of self.new)) }
-        ensures wanting { IfErr result (λ memory. AllowedVerdict (session_of self.old) stamp frame.now (Err memory) (session_of self.new)) }
-        ensures read { IfOk result (λ judged. judged.frame ≡ frame_of frame.now) }
+        ensures judged { (octets : List ℕ) → frame.now ≡ frame_of octets → AllowedVerdict (session_of self.old) stamp octets result (session_of self.new) }
         ensures books { self.new.books ≡ self.old.books }
     {
         self.judge(frame, stamp, &mut Steps::<L>::new(blank))
     }
 
     /// The verdict on a frame, and what it was read as: [`State::judge`], whose steps nobody asks for.
+    /// It stands where it is called, so that what was read isn't copied where nobody asks for that.
+    #[inline(always)]
     pub fn judge_frame<'a>(
         &mut self,
         frame: &'a [u8],
@@ -236,7 +229,11 @@ impl State {
         ensures read { IfOk result (λ judged. judged.frame ≡ frame_of frame.now) }
         ensures books { self.new.books ≡ self.old.books }
     {
-        self.judge_on::<Brand>(frame, stamp, Blank::new(1))
+        let frame = view(frame);
+        match self.judge_on::<Brand>(&frame, stamp, Blank::new(1)) {
+            Ok(verdict) => Ok(JudgedFrame { verdict, frame }),
+            Err(Memory) => Err(Memory),
+        }
     }
 
     /// What decides a frame at the later of the session's moment and this one: the verdict that

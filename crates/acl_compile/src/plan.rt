@@ -5,7 +5,7 @@ ghost use Rattle.acl_model.specs.Defaults.{default_policy};
 ghost use Rattle.acl_rows.specs.Rows.{rows_of};
 ghost use Rattle.acl_changes.specs.Touched.{touches};
 ghost use Rattle.acl_compile.specs.Compiled.{UrlsApart, compiled_state};
-ghost use Rattle.acl_compile.specs.UrlSlots.{AreSlotsOf};
+ghost use Rattle.acl_compile.specs.UrlSlots.{AreGuessed, AreSlotsOf};
 ghost use Rattle.acl_compile.specs.Plans as spec;
 ghost use Rattle.acl_compile.specs.Plans.{slot_set, IsMemberPlan, IsPolicyPlan, IsSlotFor, CanBeCounted, held_for, others_held, policy_reads, policy_steps};
 ghost use Rattle.acl_buckets.specs.RowBuckets.{HasRoom};
@@ -142,6 +142,7 @@ fn slot_for(
     requires few { length slots.now ≤ 128 }
     requires apart { UrlsApart slots.now }
     requires url_slots { AreSlotsOf slots.now url_slots.now.rows }
+    requires guessed { AreGuessed slots.now guesses.now }
     ensures { IsSlotFor url.now slots.now result }
 {
     match find_guessed(slots, url_slots, guesses, url) {
@@ -200,6 +201,7 @@ pub(crate) fn plan_slot<L: Ledger>(
     requires few { length slots.old.items ≤ 128 }
     requires apart { UrlsApart slots.old.items }
     requires url_slots { AreSlotsOf slots.old.items url_slots.old.rows }
+    requires guessed { AreGuessed slots.old.items guesses.now }
     requires kept { rows.old.rows ≡ rows_of slots.old.items bindings.now.rows }
     requires others { others_held url.now slots.old.items < 128 }
     requires lists { CanBeCounted (option_copied policy) }

@@ -320,6 +320,7 @@ pub(crate) fn find_guessed<'a>(
 ) -> Option<(u16, &'a Held)>
     requires url_slots { AreSlotsOf slots.now url_slots.now.rows }
     requires apart { UrlsApart slots.now }
+    requires guessed { AreGuessed slots.now guesses.now }
     ensures { option_map (λ h. (Owner.Url h.0, h.1.now)) result ≡ holder_from url.now 0 slots.now }
 {
     let slot_number = guesses.slot_number(url);

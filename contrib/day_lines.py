@@ -392,9 +392,10 @@ class Places:
 
     def stretches(self, number, seconds, cuts):
         """The parts of packets that are of one hour and state, and have no cut within: from and behind, hour and state."""
-        low, high = self.of(min(seconds)), self.of(max(seconds))
-        if low == high and not any(number < cut < number + len(seconds) for cut in cuts):
-            yield 0, len(seconds), low
+        low, high = min(seconds), max(seconds)
+        is_across = low < self.found.start and high >= self.found.end
+        if self.of(low) == self.of(high) and not is_across and not any(number < cut < number + len(seconds) for cut in cuts):
+            yield 0, len(seconds), self.of(low)
             return
         begin = 0
         places = [self.of(second) for second in seconds]

@@ -11,14 +11,9 @@ use Rattle.acl_model.specs.declared.binding.MemberKey.TheVariants as of_key
 
 -- a member selector
 unfoldable pub is_member : Selector → Bool
-is_member (asks.Controller uri) = true
-is_member asks.MyController = true
-is_member (asks.Manufacturer host) = true
-is_member asks.SameManufacturer = true
-is_member (asks.Model url) = true
-is_member (asks.Name name) = true
 is_member asks.LocalNetworks = false
 is_member (asks.Network prefix) = false
+is_member _ = true
 
 -- an entry with a member selector
 unfoldable pub is_membered : Entry → Bool

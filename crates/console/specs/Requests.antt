@@ -83,9 +83,7 @@ by_question session given body action asked.Why = replied (reply status.Done (wh
 unfoldable pub command_asked : Asked → Option Command
 command_asked (asked.Command command) = Some command
 command_asked (asked.Heard heard) = heard_command heard
-command_asked (asked.List listing) = None
-command_asked asked.Judge = None
-command_asked asked.Why = None
+command_asked _ = None
 
 -- what may be replied to what is asked for with this body, and the session after it
 abbrev pub AllowedQuestion : Session → ℕ → List ℕ → Action → Asked → Reply → Session → Type 0

@@ -4,18 +4,16 @@ use Rattle.json.specs.Print.{quoted}
 use Rattle.mud_url.specs.Fault as url_fault
 use Rattle.mud_url.specs.declared.fault.UrlFault.{UrlFault}
 use Rattle.dhcp_lldp.specs.Heard as hear_fault
-use Rattle.dhcp_lldp.specs.declared.heard.HearFault.{HearFault}
 use Rattle.usage_walk.specs.Names as file_rule
 use Rattle.usage_walk.specs.declared.fault.Broken.{Broken}
 use Rattle.table_model.specs.FaultNames.{number_of_thing_fault, name_of_thing_fault, number_of_bind_fault, name_of_bind_fault}
 use Rattle.usage_tables.specs.FaultNames.{number_of_cache_fault, name_of_cache_fault}
 use Rattle.usage_tables.specs.declared.cache_fault.CacheFault.{CacheFault}
-use Rattle.usage_tables.specs.declared.cache_fault.CacheFault.TheVariants.{Memory, File, Older, CacheFull, NoCandidate, Digest, NoSignature, NotApproved, PolicyFull}
+use Rattle.usage_tables.specs.declared.cache_fault.CacheFault.TheVariants.{File}
 use Rattle.desk_model.specs.declared.reply.Refusal.{Refusal}
 use Rattle.desk_model.specs.declared.reply.Refusal.TheVariants.{Things, Files, Binds}
 use Rattle.console_answers.specs.declared.status.Status.{Status}
 use Rattle.console_answers.specs.declared.status.Status.TheVariants.{Conflict, Unprocessable}
-use Rattle.console_bodies.specs.declared.member.Member.{Member}
 use Rattle.console_bodies.specs.declared.fault.BodyFault.{BodyFault}
 use Rattle.console_bodies.specs.declared.fault.BodyFault.TheVariants as fault
 use Rattle.console_bodies.specs.Members.{name_of}
@@ -59,26 +57,12 @@ file_book f = book_body (codes "files") (number_of_cache_fault f) (name_of_cache
 unfoldable pub refusal_body : Refusal → List ℕ
 refusal_body (Things f) = book_body (codes "things") (number_of_thing_fault f) (name_of_thing_fault f)
 refusal_body (Files (File broken)) = codes "{\"path\":" ++ quoted broken.path ++ broken_end broken
-refusal_body (Files Memory) = file_book Memory
-refusal_body (Files Older) = file_book Older
-refusal_body (Files CacheFull) = file_book CacheFull
-refusal_body (Files NoCandidate) = file_book NoCandidate
-refusal_body (Files Digest) = file_book Digest
-refusal_body (Files NoSignature) = file_book NoSignature
-refusal_body (Files NotApproved) = file_book NotApproved
-refusal_body (Files PolicyFull) = file_book PolicyFull
+refusal_body (Files f) = file_book f
 refusal_body (Binds f) = book_body (codes "binds") (number_of_bind_fault f) (name_of_bind_fault f)
 
 abbrev pub files_status : CacheFault → Status
 files_status (File broken) = Unprocessable
-files_status Memory = Conflict
-files_status Older = Conflict
-files_status CacheFull = Conflict
-files_status NoCandidate = Conflict
-files_status Digest = Conflict
-files_status NoSignature = Conflict
-files_status NotApproved = Conflict
-files_status PolicyFull = Conflict
+files_status _ = Conflict
 
 -- 422 where the octets are no usage file, else 409
 unfoldable pub refusal_status : Refusal → Status

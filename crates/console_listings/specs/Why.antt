@@ -5,7 +5,7 @@ use Rattle.mud_base.specs.declared.addr.Mac.{Mac}
 use Rattle.mud_base.specs.Texts.{mac_text}
 use Rattle.acl_model.specs.declared.entry.Entry.{Entry}
 use Rattle.acl_model.specs.declared.ruling.Ruling.{Ruling}
-use Rattle.acl_model.specs.declared.ruling.Ruling.TheVariants.{Accept, AcceptDefault, Drop, DropDefault, DropHeld}
+use Rattle.acl_model.specs.declared.ruling.Ruling.TheVariants.{Accept, Drop}
 use Rattle.packet_judge.specs.declared.verdict.Verdict.{Verdict}
 use Rattle.desk_model.specs.Texts.Verdicts.{ruling_text, verdict_text}
 use Rattle.console_listings.specs.declared.why.RuledEndpoint.{RuledEndpoint}
@@ -14,10 +14,8 @@ use Rattle.console_listings.specs.Rows.{url_end}
 -- the number of the entry that a ruling names
 unfoldable pub entry_number : Ruling → Option ℕ
 entry_number (Accept n) = Some n
-entry_number (AcceptDefault rule) = None
 entry_number (Drop n) = Some n
-entry_number (DropDefault why) = None
-entry_number DropHeld = None
+entry_number _ = None
 
 -- the entry that decides; null where none of a usage file does
 unfoldable pub entry_text : Option ℕ → Option Entry → List ℕ

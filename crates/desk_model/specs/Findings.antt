@@ -7,7 +7,7 @@ use Rattle.frame_view.specs.declared.views.Frame.TheVariants.{Packet}
 use Rattle.acl_model.specs.declared.entry.Entry.{Entry}
 use Rattle.acl_model.specs.declared.entry.Policy.{Policy}
 use Rattle.acl_model.specs.declared.ruling.Ruling.{Ruling}
-use Rattle.acl_model.specs.declared.ruling.Ruling.TheVariants.{Accept, AcceptDefault, Drop, DropDefault, DropHeld}
+use Rattle.acl_model.specs.declared.ruling.Ruling.TheVariants.{Accept, Drop}
 use Rattle.acl_model.specs.FirstMatch.{file_entries}
 use Rattle.table_model.specs.declared.thing.Thing.{Thing}
 use Rattle.packet_judge.specs.declared.verdict.Verdict.{Verdict}
@@ -27,10 +27,8 @@ numbered_entry policies side url n = slice_get (file_entries side (policies url)
 -- the entry that decides, where one of the Thing's usage file does
 unfoldable pub deciding_entry : Policies → Direction → List ℕ → Ruling → Option Entry
 deciding_entry policies side url (Accept n) = numbered_entry policies side url n
-deciding_entry policies side url (AcceptDefault rule) = None
 deciding_entry policies side url (Drop n) = numbered_entry policies side url n
-deciding_entry policies side url (DropDefault why) = None
-deciding_entry policies side url DropHeld = None
+deciding_entry policies side url _ = None
 
 -- a Thing, the ruling on its packet, and the entry that decides, where one does
 pub record Found : Type 0 where

@@ -69,10 +69,8 @@ AllowedReply session now command (Refused refusal) after = command_in session no
 
 -- the reply is that the keeper failed
 abbrev pub is_of_keeper : Reply → Bool
-is_of_keeper (Done outcome) = false
-is_of_keeper (Refused refusal) = false
 is_of_keeper Keeper = true
-is_of_keeper Memory = false
+is_of_keeper _ = false
 
 -- ---- Several commands
 

@@ -23,17 +23,9 @@ name_of (Url fault) = codes "Url"
 -- the offset in the message, of a fault that has one
 unfoldable pub offset_of : HearFault → Option ℕ
 offset_of (Cut at) = Some at
-offset_of Cookie = None
-offset_of Hardware = None
-offset_of Repeat = None
-offset_of Order = None
-offset_of (Url fault) = None
+offset_of _ = None
 
 -- the fault of the MUD URL
 unfoldable pub url_fault_of : HearFault → Option UrlFault
-url_fault_of (Cut at) = None
-url_fault_of Cookie = None
-url_fault_of Hardware = None
-url_fault_of Repeat = None
-url_fault_of Order = None
 url_fault_of (Url fault) = Some fault
+url_fault_of _ = None

@@ -9,8 +9,8 @@ use Rattle.mud_base.specs.declared.packet.Transport.{Transport}
 use Rattle.mud_base.specs.declared.packet.Transport.TheVariants.{Tcp, Udp, Icmp, Absent}
 use Rattle.acl_model.specs.Match.{peer_of}
 use Rattle.acl_model.specs.declared.ruling.Ruling.{Ruling}
-use Rattle.acl_model.specs.declared.ruling.Ruling.TheVariants.{Accept, AcceptDefault, Drop, DropDefault, DropHeld}
-use Rattle.acl_model.specs.declared.ruling.Why.TheVariants.{NoFile, NoMatch}
+use Rattle.acl_model.specs.declared.ruling.Ruling.TheVariants.{DropDefault}
+use Rattle.acl_model.specs.declared.ruling.Why.TheVariants.{NoMatch}
 use Rattle.base_rows.specs.Sortable.{RowsAndRoom}
 use Rattle.drop_ledger.specs.Counted.{Kinds, AreFirstRows, count_of, count_rows, kinds, sum_of, count_at}
 use Rattle.drop_ledger.specs.declared.rows.CountRow.{CountRow}
@@ -61,11 +61,7 @@ denied_row r = row_by r.ruling r
     -- the row in which a ruling is counted that dropped the packet since no entry matches
     row_by : Ruling → Ruled → Option DeniedRow
     row_by (DropDefault NoMatch) r = row_with r.mac r.side r.fields
-    row_by (DropDefault NoFile) r = None
-    row_by (Accept n) r = None
-    row_by (AcceptDefault which) r = None
-    row_by (Drop n) r = None
-    row_by DropHeld r = None
+    row_by _ r = None
 
 unfoldable pub denials : List Ruled → List DeniedRow
 denials done = filter_map denied_row done

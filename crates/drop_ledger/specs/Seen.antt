@@ -24,9 +24,7 @@ mac_on s To = s.destination
 unfoldable pub ruling_on : Verdict → Direction → Option Ruling
 ruling_on (Governed source destination) From = source
 ruling_on (Governed source destination) To = destination
-ruling_on Unmanaged side = None
-ruling_on Link side = None
-ruling_on (Unreadable part) side = None
+ruling_on _ side = None
 
 -- the ruling on the Thing at this side of the packet, where one was given
 unfoldable pub ruled_on : Seen → Direction → Option Ruled
@@ -48,17 +46,13 @@ is_ruled s = is_some (ruled_on s From) || is_some (ruled_on s To)
 -- ---- Totals
 
 unfoldable pub is_governed : Verdict → Bool
-is_governed Unmanaged = false
-is_governed Link = false
-is_governed (Unreadable part) = false
 is_governed (Governed source destination) = true
+is_governed _ = false
 
 -- it was ruled on for the Thing at each endpoint
 unfoldable pub has_both : Verdict → Bool
-has_both Unmanaged = false
-has_both Link = false
-has_both (Unreadable part) = false
 has_both (Governed source destination) = is_some source && is_some destination
+has_both _ = false
 
 unfoldable pub totals_in : List Seen → Totals
 totals_in all = record {
@@ -76,21 +70,15 @@ totals_in all = record {
 
     is_unmanaged : Verdict → Bool
     is_unmanaged Unmanaged = true
-    is_unmanaged Link = false
-    is_unmanaged (Unreadable part) = false
-    is_unmanaged (Governed source destination) = false
+    is_unmanaged _ = false
 
     is_link : Verdict → Bool
-    is_link Unmanaged = false
     is_link Link = true
-    is_link (Unreadable part) = false
-    is_link (Governed source destination) = false
+    is_link _ = false
 
     is_unreadable : Verdict → Bool
-    is_unreadable Unmanaged = false
-    is_unreadable Link = false
     is_unreadable (Unreadable part) = true
-    is_unreadable (Governed source destination) = false
+    is_unreadable _ = false
 
     drops : Verdict → Bool
     drops verdict = is_governed verdict && not (forwarded verdict)

@@ -41,9 +41,7 @@ ruling_class DropHeld = 6
 unfoldable pub entry_number : Ruling → ℕ
 entry_number (Accept n) = n
 entry_number (Drop n) = n
-entry_number (AcceptDefault which) = 0
-entry_number (DropDefault why) = 0
-entry_number DropHeld = 0
+entry_number _ = 0
 
 unfoldable pub ruling_sort_key : Ruling → List ℕ
 ruling_sort_key ruling = ruling_class ruling ∷ entry_number ruling ∷ []

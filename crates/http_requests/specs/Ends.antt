@@ -12,20 +12,12 @@ use Rattle.http_requests.specs.Asked.{Asked}
 use Rattle.http_requests.specs.Runs.{Runs}
 
 abbrev pub is_read_failed : ConnectionEnd → Bool
-is_read_failed Ended = false
-is_read_failed Closed = false
-is_read_failed Broken = false
-is_read_failed Spent = false
 is_read_failed ReadFailed = true
-is_read_failed WriteFailed = false
+is_read_failed _ = false
 
 abbrev pub is_write_failed : ConnectionEnd → Bool
-is_write_failed Ended = false
-is_write_failed Closed = false
-is_write_failed Broken = false
-is_write_failed Spent = false
-is_write_failed ReadFailed = false
 is_write_failed WriteFailed = true
+is_write_failed _ = false
 
 -- What requests may be answered, and what the answers to faults are; where moments come from.
 module _ {S : Type 0} (may : S → Asked → List ℕ → S → Type 0) (refusal : RequestFault → List ℕ) (from : MomentFrom) where

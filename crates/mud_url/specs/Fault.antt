@@ -28,10 +28,4 @@ name_of Long = codes "Long"
 unfoldable pub offset_of : UrlFault → Option ℕ
 offset_of (Octet at) = Some at
 offset_of (Path at) = Some at
-offset_of Empty = None
-offset_of Scheme = None
-offset_of Host = None
-offset_of Port = None
-offset_of UserInfo = None
-offset_of Fragment = None
-offset_of Long = None
+offset_of _ = None

@@ -12,7 +12,7 @@ use Rattle.frame_view.specs.Ethernet.{destination_of, source_of}
 use Rattle.frame_view.specs.Frame.{frame_of}
 use Rattle.acl_model.specs.declared.entry.Policy.{Policy}
 use Rattle.acl_model.specs.declared.ruling.Ruling.{Ruling}
-use Rattle.acl_model.specs.declared.ruling.Ruling.TheVariants.{Accept, AcceptDefault, Drop, DropDefault, DropHeld}
+use Rattle.acl_model.specs.declared.ruling.Ruling.TheVariants.{Accept, AcceptDefault, DropHeld}
 use Rattle.table_model.specs.declared.thing.Thing.{Thing}
 use Rattle.table_model.specs.declared.segment.Segment.{Segment}
 use Rattle.table_model.specs.Tables.{Tables, destination_thing, ruling_of}
@@ -74,9 +74,7 @@ unfoldable pub accepts : Option Ruling → Bool
 accepts None = true
 accepts (Some (Accept n)) = true
 accepts (Some (AcceptDefault which)) = true
-accepts (Some (Drop n)) = false
-accepts (Some (DropDefault why)) = false
-accepts (Some DropHeld) = false
+accepts _ = false
 
 unfoldable pub forwarded : Verdict → Bool
 forwarded Unmanaged = true
@@ -88,9 +86,7 @@ forwarded (Governed source destination) = accepts source && accepts destination
 
 unfoldable pub is_tcp : Transport → Bool
 is_tcp (packet.Tcp from to flags) = true
-is_tcp (packet.Udp from to) = false
-is_tcp (packet.Icmp kind code) = false
-is_tcp packet.Absent = false
+is_tcp _ = false
 
 unfoldable pub noted_fields : Frame → Verdict → Option Fields
 noted_fields (frame.Packet packet) (Governed source destination) = if forwarded (Governed source destination) && is_tcp packet.fields.transport then Some packet.fields else None

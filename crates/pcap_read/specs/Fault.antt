@@ -22,22 +22,13 @@ name_of ReadFault = codes "ReadFault"
 name_of Many = codes "Many"
 
 unfoldable pub offset_of : CapFault → Option ℕ
-offset_of Magic = None
-offset_of Version = None
-offset_of LinkType = None
 offset_of (Cut at) = Some at
 offset_of (Long at) = Some at
-offset_of ReadFault = None
-offset_of Many = None
+offset_of _ = None
 
 abbrev pub is_read_fault : CapFault → Bool
-is_read_fault Magic = false
-is_read_fault Version = false
-is_read_fault LinkType = false
-is_read_fault (Cut at) = false
-is_read_fault (Long at) = false
 is_read_fault ReadFault = true
-is_read_fault Many = false
+is_read_fault _ = false
 
 -- whether the octets end within something that begins there
 abbrev pub is_cut : CapFault → Bool

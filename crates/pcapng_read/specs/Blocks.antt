@@ -146,24 +146,18 @@ body_rows head at block = body_rows_of head.kind head.order at block
 
 -- how many packets stand behind a block, where so many stand before it
 abbrev pub packets_behind : Kind → ℕ → ℕ
-packets_behind SectionHeader count = count
-packets_behind InterfaceDescription count = count
 packets_behind EnhancedPacket count = count + 1
-packets_behind OtherPacket count = count
-packets_behind Other count = count
+packets_behind _ count = count
 
 -- the packet of a block
 abbrev pub packets_in : Kind → Standing → List ℕ → List Packet
-packets_in SectionHeader at block = []
-packets_in InterfaceDescription at block = []
 packets_in EnhancedPacket at block = record {
   number = at.packets + 1;
   offset = at.offset;
   seconds = seconds_of at.section block;
   octets = take (captured_len at.section.order block) (drop 28 block);
 } ∷ []
-packets_in OtherPacket at block = []
-packets_in Other at block = []
+packets_in _ at block = []
 
 unfoldable pub standing_behind : Head → Standing → List ℕ → Standing
 standing_behind head at block = record {
@@ -177,9 +171,7 @@ standing_behind head at block = record {
     section_behind : Kind → ByteOrder → Section → List ℕ → Section
     section_behind SectionHeader order section block = record { order = order; interfaces = [] }
     section_behind InterfaceDescription order section block = record section { interfaces = section.interfaces ++ interface_of order block ∷ [] }
-    section_behind EnhancedPacket order section block = section
-    section_behind OtherPacket order section block = section
-    section_behind Other order section block = section
+    section_behind _ order section block = section
 
 -- ---- Block after block
 

@@ -46,18 +46,8 @@ offset_of (Interface at) = Some at
 offset_of (Late at) = Some at
 
 abbrev pub is_read_fault : NgFault → Bool
-is_read_fault (Magic at) = false
-is_read_fault (Version at) = false
-is_read_fault (LinkType at) = false
-is_read_fault (Cut at) = false
-is_read_fault (Long at) = false
 is_read_fault ReadFault = true
-is_read_fault (Many at) = false
-is_read_fault (Length at) = false
-is_read_fault (PacketForm at) = false
-is_read_fault (Resolution at) = false
-is_read_fault (Interface at) = false
-is_read_fault (Late at) = false
+is_read_fault _ = false
 
 -- whether the octets end within something that begins there
 abbrev pub is_cut : NgFault → Bool

@@ -12,8 +12,8 @@ ghost use Rattle.table_model.specs.declared.bind.NameRow.{NameRow};
 ghost use Rattle.table_model.specs.Things.{mac_of, IsSoundThings};
 ghost use Rattle.table_model.specs.Binds.{class_key, name_of, IsSoundClasses, IsSoundNames};
 ghost use Rattle.table_model.specs.Tables.{Tables, IsSoundTables};
-ghost use Rattle.table_model.specs.Bindings.{thing_bindings, class_bindings, name_bindings, bindings_of};
-ghost use Rattle.table_model.specs.BindingChanges.{gone_of, come_of};
+ghost use Rattle.table_model.specs.Bindings.{bindings_of};
+ghost use Rattle.table_laws.specs.Changed.{ChangesThings, ChangesClasses, ChangesNames};
 
 /// Sound tables have one binding for a key and an address.
 pub fn tables_bind_once()
@@ -31,24 +31,15 @@ pub fn tables_bind_once()
 pub fn rows_change_bindings()
     ensures things { (tables : Tables) (change : RowChange Thing) → IsSoundThings tables.things
         → IsSoundThings (changed mac_of change tables.things) → IsTrue (is_plain mac_of change)
-        → IsBindingChange (bindings_of tables)
-        (bindings_of (record tables { things = changed mac_of change tables.things }))
-        (gone_of mac_of thing_bindings change tables.things)
-        (come_of mac_of thing_bindings change tables.things) }
+        → ChangesThings change tables (changed mac_of change tables.things) }
     ensures classes { (tables : Tables) (change : RowChange ClassRow)
         → IsSoundClasses tables.classes
         → IsSoundClasses (changed class_key change tables.classes)
         → IsTrue (is_plain class_key change)
-        → IsBindingChange (bindings_of tables)
-        (bindings_of (record tables { classes = changed class_key change tables.classes }))
-        (gone_of class_key class_bindings change tables.classes)
-        (come_of class_key class_bindings change tables.classes) }
+        → ChangesClasses change tables (changed class_key change tables.classes) }
     ensures names { (tables : Tables) (change : RowChange NameRow) → IsSoundNames tables.names
         → IsSoundNames (changed name_of change tables.names) → IsTrue (is_plain name_of change)
-        → IsBindingChange (bindings_of tables)
-        (bindings_of (record tables { names = changed name_of change tables.names }))
-        (gone_of name_of name_bindings change tables.names)
-        (come_of name_of name_bindings change tables.names) }
+        → ChangesNames change tables (changed name_of change tables.names) }
 {}
 
 /// A store, in the order of the sort keys of bindings, that has the bindings of the tables before a

@@ -3,18 +3,15 @@ ghost use Rattle.std.specs.Prelude.{◌≡◌, ◌↔◌, ℕ, ◌<◌, ◌≤�
 ghost use Rattle.std.specs.List.{AllByRecursion};
 ghost use Rattle.mud_base.specs.declared.addr.Addr.{Addr};
 ghost use Rattle.mud_base.specs.declared.prefix.Prefix.{Prefix};
-ghost use Rattle.base_rows.specs.Changes.{changed, is_plain};
-ghost use Rattle.acl_model.specs.Changes.{IsBindingChange};
 ghost use Rattle.table_model.specs.declared.bind.Class.{Class};
 ghost use Rattle.table_model.specs.declared.bind.ClassRow.{ClassRow};
 ghost use Rattle.table_model.specs.declared.bind.NameRow.{NameRow};
 ghost use Rattle.table_model.specs.BindRowChanges.{bind_change, unbind_change, observe_change};
 ghost use Rattle.table_model.specs.Tables.{Tables, IsSoundTables, binds_of, with_binds};
-ghost use Rattle.table_model.specs.Bindings.{class_bindings, name_bindings, bindings_of};
-ghost use Rattle.table_model.specs.BindingChanges.{gone_of, come_of};
 ghost use Rattle.table_model.specs.ItemFields.{IsAddr};
 ghost use Rattle.table_model.specs.Binds.{Binds, IsSoundBinds, IsSoundClasses, IsSoundNames, IsKeptNetwork, class_key, is_class, name_of, is_name};
 ghost use Rattle.table_model.specs.BindCommands.{bind_step, unbind_step, observe_step, bind_class_step, unbind_class_step, set_locals_step, observe_name_step};
+ghost use Rattle.table_laws.specs.Changed.{MakesRows, ChangesClasses, ChangesNames};
 
 /// The three lists as parts of the tables.
 pub fn binds_are_parts_of_tables()
@@ -72,16 +69,13 @@ pub fn binds_change_as_told()
 pub fn binds_change_rows()
     ensures bind { (classes : List ClassRow) (class : Class) (a : Addr)
         → IfOk (bind_step class a classes)
-        (λ after. (changed class_key (bind_change class a classes) classes ≡ after.classes)
-        × IsTrue (is_plain class_key (bind_change class a classes))) }
+        (λ after. MakesRows class_key (bind_change class a classes) classes after.classes) }
     ensures unbind { (classes : List ClassRow) (class : Class) (a : Addr)
         → IfOk (unbind_step class a classes)
-        (λ after. (changed class_key (unbind_change class a classes) classes ≡ after.classes)
-        × IsTrue (is_plain class_key (unbind_change class a classes))) }
+        (λ after. MakesRows class_key (unbind_change class a classes) classes after.classes) }
     ensures observe { (names : List NameRow) → IsSoundNames names → (name : List ℕ) (a : Addr)
         (ttl now : ℕ) → IfOk (observe_step name a ttl now names)
-        (λ after. (changed name_of (observe_change name a ttl now names) names ≡ after.names)
-        × IsTrue (is_plain name_of (observe_change name a ttl now names))) }
+        (λ after. MakesRows name_of (observe_change name a ttl now names) names after.names) }
 {}
 
 /// What goes and comes with a command on classes or names is the difference of the bindings of all
@@ -89,25 +83,12 @@ pub fn binds_change_rows()
 pub fn binds_change_bindings()
     ensures bind { (tables : Tables) → IsSoundClasses tables.classes → (class : Class) (a : Addr)
         → IsTrue (is_class class) → IsAddr a → IfOk (bind_step class a tables.classes)
-        (λ after. IsBindingChange (bindings_of tables)
-        (bindings_of (record tables { classes = after.classes }))
-        (gone_of class_key class_bindings (bind_change class a tables.classes) tables.classes)
-        (come_of class_key class_bindings (bind_change class a tables.classes)
-        tables.classes)) }
+        (λ after. ChangesClasses (bind_change class a tables.classes) tables after.classes) }
     ensures unbind { (tables : Tables) → IsSoundClasses tables.classes → (class : Class)
         (a : Addr) → IsTrue (is_class class) → IfOk (unbind_step class a tables.classes)
-        (λ after. IsBindingChange (bindings_of tables)
-        (bindings_of (record tables { classes = after.classes }))
-        (gone_of class_key class_bindings (unbind_change class a tables.classes) tables.classes)
-        (come_of class_key class_bindings (unbind_change class a tables.classes)
-        tables.classes)) }
+        (λ after. ChangesClasses (unbind_change class a tables.classes) tables after.classes) }
     ensures observe { (tables : Tables) → IsSoundNames tables.names → (name : List ℕ) (a : Addr)
         (ttl now : ℕ) → IsTrue (is_name name) → IsAddr a → now ≤ 253402300799 → ttl < 2 ^ 32
         → IfOk (observe_step name a ttl now tables.names)
-        (λ after. IsBindingChange (bindings_of tables)
-        (bindings_of (record tables { names = after.names }))
-        (gone_of name_of name_bindings (observe_change name a ttl now tables.names)
-        tables.names)
-        (come_of name_of name_bindings (observe_change name a ttl now tables.names)
-        tables.names)) }
+        (λ after. ChangesNames (observe_change name a ttl now tables.names) tables after.names) }
 {}

@@ -3,15 +3,13 @@ ghost use Rattle.std.specs.Prelude.{◌≡◌, ℕ, ◌<◌, ◌≤◌, ◌^◌,
 ghost use Rattle.mud_base.specs.declared.addr.Addr.{Addr};
 ghost use Rattle.mud_base.specs.declared.addr.Mac.{Mac};
 ghost use Rattle.base_rows.specs.Changes.{changed, is_plain};
-ghost use Rattle.acl_model.specs.Changes.{IsBindingChange};
 ghost use Rattle.table_model.specs.declared.thing.Thing.{Thing};
 ghost use Rattle.table_model.specs.ItemFields.{IsAddr};
 ghost use Rattle.table_model.specs.Things.{mac_of, IsSoundThings};
 ghost use Rattle.table_model.specs.ThingCommands.{lease_step};
 ghost use Rattle.table_model.specs.ThingChanges.{lease_change};
 ghost use Rattle.table_model.specs.Tables.{Tables};
-ghost use Rattle.table_model.specs.Bindings.{thing_bindings, bindings_of};
-ghost use Rattle.table_model.specs.BindingChanges.{gone_of, come_of};
+ghost use Rattle.table_laws.specs.Changed.{ChangesThings};
 
 /// A lease changes at most two rows: that of the Thing that has the address, and that of the Thing
 /// that gets it.
@@ -35,10 +33,6 @@ pub fn leases_change_bindings()
     ensures { (tables : Tables) → IsSoundThings tables.things → (mac : Mac) (a : Addr)
         (seconds now : ℕ) (heard : Bool) → IsAddr a → now ≤ 253402300799 → seconds < 2 ^ 32
         → IfOk (lease_step mac a seconds now heard tables.things)
-        (λ after. IsBindingChange (bindings_of tables)
-        (bindings_of (record tables { things = after.things }))
-        (gone_of mac_of thing_bindings (lease_change mac a seconds now tables.things)
-        tables.things)
-        (come_of mac_of thing_bindings (lease_change mac a seconds now tables.things)
-        tables.things)) }
+        (λ after. ChangesThings (lease_change mac a seconds now tables.things) tables
+        after.things) }
 {}

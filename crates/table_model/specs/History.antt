@@ -22,9 +22,7 @@ segment_of fields now = segment_in fields.src fields.dst now fields.transport
   where
     segment_in : Addr → Addr → ℕ → Transport → Option Segment
     segment_in src dst now (packet.Tcp from to flags) = Some (record { source = (src, from); destination = (dst, to); flags = flags; at = now })
-    segment_in src dst now (packet.Udp from to) = None
-    segment_in src dst now (packet.Icmp kind code) = None
-    segment_in src dst now packet.Absent = None
+    segment_in src dst now _ = None
 
 unfoldable pub same_endpoint : Endpoint → Endpoint → Bool
 same_endpoint a b = same_addr a.0 b.0 && a.1 == b.1

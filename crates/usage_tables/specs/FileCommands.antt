@@ -129,10 +129,8 @@ candidate_cases url digest v files row (Some candidate) =
 
 unfoldable pub is_verdict : OperatorVerdict → Approval → Bool
 is_verdict verdict.Verified approval.Verified = true
-is_verdict verdict.Verified approval.Waived = false
-is_verdict verdict.Waived approval.Verified = false
 is_verdict verdict.Waived approval.Waived = true
-is_verdict verdict.Failed given = false
+is_verdict _ _ = false
 
 -- the approved file has that digest and that approval already
 unfoldable pub is_ruled : List ℕ → OperatorVerdict → Option (HeldFile × Approval) → Bool

@@ -29,10 +29,8 @@ lines_of (entry ∷ entries) = line_with entry.name entry.reply ++ lines_of entr
 
 -- memory was wanted: no line says so, and the import ends
 abbrev pub is_of_memory : Reply → Bool
-is_of_memory (Done outcome) = false
-is_of_memory (Refused refusal) = false
-is_of_memory Keeper = false
 is_of_memory Memory = true
+is_of_memory _ = false
 
 -- the status where this name is the only one: 3 where the file is refused, and 7 where the keeper failed
 abbrev pub status_with : Option Reply → ℕ

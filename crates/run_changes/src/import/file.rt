@@ -15,7 +15,7 @@ ghost use Rattle.run_changes.specs.Import.Entries.{has_keeper_failed, is_of_memo
 ghost use Rattle.run_changes.specs.Import.Entries as entries;
 ghost use Rattle.run_changes.specs.Import.Imports.{ImportsEntry};
 ghost use Rattle.run_changes.specs.Import.Names as names;
-ghost use Rattle.run_changes.specs.Import.Scenes.{standing, scene};
+ghost use Rattle.run_changes.specs.Import.Scenes.{standing, scene_of};
 ghost use Rattle.run_changes.specs.Import.Runs.{ImportsPart, ImportsAll};
 ghost use Rattle.run_common.specs.Stops.{has_failed};
 
@@ -136,11 +136,11 @@ pub(crate) fn import_file<K: Keeper, D: Door, P: Spool, C: Clock>(
     // No packet is counted for the connections.
     ensures history { desk.new.state.flows.history ≡ desk.old.state.flows.history }
     ensures all { D.tells → P.tells → C.tells → IfOk result (λ status. ImportsAll (P.view spool.old).files (name.now ∷ [])
-        (scene desk.old.state (C.moments clock.old) (D.view door.old).state (faults_of ⟦<K as Keeper>⟧ desk.old.keeper))
-        (scene desk.new.state (C.moments clock.new) (D.view door.new).state (faults_of ⟦<K as Keeper>⟧ desk.new.keeper)) (status_number status)) }
+        (scene_of ⟦<K as Keeper>⟧ desk.old (C.moments clock.old) (D.view door.old).state)
+        (scene_of ⟦<K as Keeper>⟧ desk.new (C.moments clock.new) (D.view door.new).state) (status_number status)) }
     ensures part { D.tells → P.tells → C.tells → OnErr result (ImportsPart (P.view spool.old).files (name.now ∷ [])
-        (scene desk.old.state (C.moments clock.old) (D.view door.old).state (faults_of ⟦<K as Keeper>⟧ desk.old.keeper))
-        (scene desk.new.state (C.moments clock.new) (D.view door.new).state (faults_of ⟦<K as Keeper>⟧ desk.new.keeper))) }
+        (scene_of ⟦<K as Keeper>⟧ desk.old (C.moments clock.old) (D.view door.old).state)
+        (scene_of ⟦<K as Keeper>⟧ desk.new (C.moments clock.new) (D.view door.new).state)) }
     ensures statuses { IfOk result (λ status. IsOneOf (Done ∷ Refused ∷ KeeperFailed ∷ []) (status_number status)) }
     ensures keeper { IfOk result (λ status. Counts (status_number status == status_number KeeperFailed) (faults_of ⟦<K as Keeper>⟧ desk.old.keeper) (faults_of ⟦<K as Keeper>⟧ desk.new.keeper)) }
     ensures failed { result ≡ Err Stop.Failed → IsStoppedByDoorOrSpool

@@ -11,7 +11,7 @@ ghost use Rattle.run_common.specs.Status.{Is, IsNot, IsOneOf, status_number};
 ghost use Rattle.run_common.specs.declared.status.Status.TheVariants.{Done, Refused, DoorFailed, NoMemory, KeeperFailed};
 ghost use Rattle.run_changes.specs.Import.Order.{in_order};
 ghost use Rattle.run_changes.specs.Import.Runs.{ImportsPart, ImportsAll};
-ghost use Rattle.run_changes.specs.Import.Scenes.{scene};
+ghost use Rattle.run_changes.specs.Import.Scenes.{scene_of};
 ghost use Rattle.run_common.specs.Stops.{has_failed};
 
 use crate::import::file::import_file;
@@ -44,11 +44,11 @@ fn import_names<K: Keeper, D: Door, P: Spool, C: Clock>(
     // No packet is counted for the connections.
     ensures history { desk.new.state.flows.history ≡ desk.old.state.flows.history }
     ensures all { D.tells → P.tells → C.tells → IfOk result (λ status. ImportsAll (P.view spool.old).files names.now
-        (scene desk.old.state (C.moments clock.old) (D.view door.old).state (faults_of ⟦<K as Keeper>⟧ desk.old.keeper))
-        (scene desk.new.state (C.moments clock.new) (D.view door.new).state (faults_of ⟦<K as Keeper>⟧ desk.new.keeper)) (status_number status)) }
+        (scene_of ⟦<K as Keeper>⟧ desk.old (C.moments clock.old) (D.view door.old).state)
+        (scene_of ⟦<K as Keeper>⟧ desk.new (C.moments clock.new) (D.view door.new).state) (status_number status)) }
     ensures part { D.tells → P.tells → C.tells → OnErr result (ImportsPart (P.view spool.old).files names.now
-        (scene desk.old.state (C.moments clock.old) (D.view door.old).state (faults_of ⟦<K as Keeper>⟧ desk.old.keeper))
-        (scene desk.new.state (C.moments clock.new) (D.view door.new).state (faults_of ⟦<K as Keeper>⟧ desk.new.keeper))) }
+        (scene_of ⟦<K as Keeper>⟧ desk.old (C.moments clock.old) (D.view door.old).state)
+        (scene_of ⟦<K as Keeper>⟧ desk.new (C.moments clock.new) (D.view door.new).state)) }
     ensures statuses { IfOk result (λ status. IsOneOf (Done ∷ Refused ∷ KeeperFailed ∷ []) (status_number status)) }
     ensures keeper { IfOk result (λ status. Counts (status_number status == status_number KeeperFailed) (faults_of ⟦<K as Keeper>⟧ desk.old.keeper) (faults_of ⟦<K as Keeper>⟧ desk.new.keeper)) }
     ensures failed { result ≡ Err Stop.Failed → IsStoppedByDoorOrSpool
@@ -90,13 +90,13 @@ pub(crate) fn import_files<K: Keeper, D: Door, P: Spool, C: Clock>(
     // With 0, 3 and 7 every name has its line, and the desk's lists are those after all commands.
     ensures done { D.tells → P.tells → C.tells → IsOneOf (Done ∷ Refused ∷ KeeperFailed ∷ []) (status_number result) →
         ImportsAll (P.view spool.old).files (in_order (names_of (P.view spool.old).files))
-        (scene desk.old.state (C.moments clock.old) (D.view door.old).state (faults_of ⟦<K as Keeper>⟧ desk.old.keeper))
-        (scene desk.new.state (C.moments clock.new) (D.view door.new).state (faults_of ⟦<K as Keeper>⟧ desk.new.keeper)) (status_number result) }
+        (scene_of ⟦<K as Keeper>⟧ desk.old (C.moments clock.old) (D.view door.old).state)
+        (scene_of ⟦<K as Keeper>⟧ desk.new (C.moments clock.new) (D.view door.new).state) (status_number result) }
     // With 4 and 5 a first part of that was done.
     ensures part { D.tells → P.tells → C.tells → IsOneOf (DoorFailed ∷ NoMemory ∷ []) (status_number result) →
         ImportsPart (P.view spool.old).files (in_order (names_of (P.view spool.old).files))
-        (scene desk.old.state (C.moments clock.old) (D.view door.old).state (faults_of ⟦<K as Keeper>⟧ desk.old.keeper))
-        (scene desk.new.state (C.moments clock.new) (D.view door.new).state (faults_of ⟦<K as Keeper>⟧ desk.new.keeper)) }
+        (scene_of ⟦<K as Keeper>⟧ desk.old (C.moments clock.old) (D.view door.old).state)
+        (scene_of ⟦<K as Keeper>⟧ desk.new (C.moments clock.new) (D.view door.new).state) }
     // 4 comes exactly where a write of the door, or a call of the spool, failed in this call: one failed, and it isn't called again,
     ensures fault { Is DoorFailed (status_number result) → IsStoppedByDoorOrSpool
         (D.view door.old) (D.view door.new) (P.view spool.old) (P.view spool.new) }

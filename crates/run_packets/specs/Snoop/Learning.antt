@@ -9,22 +9,18 @@ use Rattle.table_model.specs.declared.bind.Class.TheVariants.{Uri}
 use Rattle.table_model.specs.declared.bind.ClassRow.{ClassRow}
 use Rattle.table_model.specs.Tables.{is_bound}
 use Rattle.packet_judge.specs.declared.verdict.Verdict.{Verdict}
-use Rattle.packet_judge.specs.declared.verdict.Verdict.TheVariants.{Unmanaged, Link, Unreadable, Governed}
+use Rattle.packet_judge.specs.declared.verdict.Verdict.TheVariants.{Governed}
 use Rattle.packet_judge.specs.Verdicts.{forwarded}
 
 -- it came by UDP from the port of DNS servers (RFC 1035, section 4.2.1)
 unfoldable pub is_from_dns : Transport → Bool
-is_from_dns (packet.Tcp from to flags) = false
 is_from_dns (packet.Udp from to) = from == 53
-is_from_dns (packet.Icmp kind code) = false
-is_from_dns packet.Absent = false
+is_from_dns _ = false
 
 -- it has a ruling, and is forwarded
 unfoldable pub is_let_through : Verdict → Bool
-is_let_through Unmanaged = false
-is_let_through Link = false
-is_let_through (Unreadable part) = false
 is_let_through (Governed source destination) = forwarded (Governed source destination)
+is_let_through _ = false
 
 -- What names are learnt from: the payload of a packet that has a ruling, is forwarded, and came by UDP from port 53 of an
 -- address of the class of DNS servers (RFC 8520, 4.6).

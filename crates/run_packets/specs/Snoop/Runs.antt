@@ -1,5 +1,7 @@
 -- What a capture leaves from which names are learnt: of the desk, of the connection, and of the keeper's count of faults.
 use Rattle.std.specs.Prelude.{◌≡◌, ℕ, List, [], ◌∷◌, ◌++◌, Option}
+use Rattle.mud_world.specs.declared.keeper.Keeper.{Ghosts}
+use Rattle.mud_world.specs.Kept.{faults_of}
 use Rattle.mud_world.specs.Causes.{RoseBy}
 use Rattle.mud_world.specs.Door.{DoorState}
 use Rattle.read_buffer.specs.Packets.{Packet}
@@ -9,6 +11,8 @@ use Rattle.run_captures.specs.Capture.{end_line, status_at}
 use Rattle.run_captures.specs.Runs.{WroteTaken}
 use Rattle.run_common.specs.Output.{Output, WritesOutput, WritesPart}
 use Rattle.desk_model.specs.Sessions.{Session}
+use Rattle.mud_desk.specs.DeskState.{session_of}
+use Rattle.mud_desk.specs.declared.desk.Desk.{Desk}
 use Rattle.run_packets.specs.Snoop.Entries.{Entry, packets_of, lines_of, keeper_count, status_with}
 use Rattle.run_packets.specs.Snoop.Packets.{Snoops, Stops}
 
@@ -20,6 +24,10 @@ pub record Scene : Type 0 where
 
 abbrev pub scene : Session → DoorState → ℕ → Scene
 scene session door faults = record { session = session; door = door; faults = faults }
+
+-- where this desk stands, with a door that stands so
+abbrev pub scene_of : {K : Type 0} → Ghosts K → Desk K → DoorState → Scene
+scene_of members desk door = scene (session_of desk.state) door (faults_of members desk.keeper)
 
 -- the output for entries that are all of a capture, which ends so
 abbrev pub output_of_entries : List Entry → Option CaptureFault → Output

@@ -10,9 +10,9 @@ ghost use Rattle.run_common.specs.Ends.{IsSteady, IsStopped};
 ghost use Rattle.run_common.specs.Status.{Is, IsNot, IsOneOf, status_number};
 ghost use Rattle.run_common.specs.declared.status.Status.TheVariants.{Done, Refused, DoorFailed, NoMemory, KeeperFailed};
 ghost use Rattle.desk_model.specs.Kept.{IsKept};
-ghost use Rattle.mud_desk.specs.DeskState.{session_of, tables_of};
+ghost use Rattle.mud_desk.specs.DeskState.{tables_of};
 ghost use Rattle.mud_desk.specs.Stays.{StaysKept};
-ghost use Rattle.run_packets.specs.Snoop.Runs.{scene, SnoopsAll, SnoopsPart, SnoopsTaken};
+ghost use Rattle.run_packets.specs.Snoop.Runs.{scene_of, SnoopsAll, SnoopsPart, SnoopsTaken};
 
 use crate::snoop::observing::either;
 use crate::snoop::packet::snoop_packet;
@@ -51,16 +51,16 @@ fn snoop_packets<K: Keeper, D: Door>(
     ensures stays { StaysKept ⟦<K as Keeper>⟧ desk.old desk.new }
     ensures done { (first : DoorState) → D.tells → HasDone [] [] reader.old first (D.view door.old).state lines.old
         → IsOneOf (Done ∷ Refused ∷ KeeperFailed ∷ []) (status_number result)
-        → SnoopsAll (scene (session_of desk.old.state) first (faults_of ⟦<K as Keeper>⟧ desk.old.keeper))
-        (scene (session_of desk.new.state) (D.view door.new).state (faults_of ⟦<K as Keeper>⟧ desk.new.keeper)) (status_number result) }
+        → SnoopsAll (scene_of ⟦<K as Keeper>⟧ desk.old first)
+        (scene_of ⟦<K as Keeper>⟧ desk.new (D.view door.new).state) (status_number result) }
     ensures part { (first : DoorState) → D.tells → HasDone [] [] reader.old first (D.view door.old).state lines.old
         → IsOneOf (DoorFailed ∷ NoMemory ∷ []) (status_number result)
-        → SnoopsPart (scene (session_of desk.old.state) first (faults_of ⟦<K as Keeper>⟧ desk.old.keeper))
-        (scene (session_of desk.new.state) (D.view door.new).state (faults_of ⟦<K as Keeper>⟧ desk.new.keeper)) }
+        → SnoopsPart (scene_of ⟦<K as Keeper>⟧ desk.old first)
+        (scene_of ⟦<K as Keeper>⟧ desk.new (D.view door.new).state) }
     ensures taken { (first : DoorState) → D.tells → HasDone [] [] reader.old first (D.view door.old).state lines.old
         → (D.view door.new).reads ≢ (D.view door.old).reads
-        → SnoopsTaken (scene (session_of desk.old.state) first (faults_of ⟦<K as Keeper>⟧ desk.old.keeper))
-        (scene (session_of desk.new.state) (D.view door.new).state (faults_of ⟦<K as Keeper>⟧ desk.new.keeper)) }
+        → SnoopsTaken (scene_of ⟦<K as Keeper>⟧ desk.old first)
+        (scene_of ⟦<K as Keeper>⟧ desk.new (D.view door.new).state) }
     ensures keeper { Is KeeperFailed (status_number result) → Rose (faults_of ⟦<K as Keeper>⟧ desk.old.keeper) (faults_of ⟦<K as Keeper>⟧ desk.new.keeper) }
     ensures keeper_steady { IsOneOf (Done ∷ Refused ∷ []) (status_number result) →
         faults_of ⟦<K as Keeper>⟧ desk.new.keeper ≡ faults_of ⟦<K as Keeper>⟧ desk.old.keeper }
@@ -107,14 +107,14 @@ pub(crate) fn snoop_capture<K: Keeper, D: Door>(
     ensures steady { IsNot DoorFailed (status_number result) → IsSteady (D.view door.old) (D.view door.new) }
     ensures stays { StaysKept ⟦<K as Keeper>⟧ desk.old desk.new }
     ensures done { D.tells → IsOneOf (Done ∷ Refused ∷ KeeperFailed ∷ []) (status_number result)
-        → SnoopsAll (scene (session_of desk.old.state) (D.view door.old).state (faults_of ⟦<K as Keeper>⟧ desk.old.keeper))
-        (scene (session_of desk.new.state) (D.view door.new).state (faults_of ⟦<K as Keeper>⟧ desk.new.keeper)) (status_number result) }
+        → SnoopsAll (scene_of ⟦<K as Keeper>⟧ desk.old (D.view door.old).state)
+        (scene_of ⟦<K as Keeper>⟧ desk.new (D.view door.new).state) (status_number result) }
     ensures part { D.tells → IsOneOf (DoorFailed ∷ NoMemory ∷ []) (status_number result)
-        → SnoopsPart (scene (session_of desk.old.state) (D.view door.old).state (faults_of ⟦<K as Keeper>⟧ desk.old.keeper))
-        (scene (session_of desk.new.state) (D.view door.new).state (faults_of ⟦<K as Keeper>⟧ desk.new.keeper)) }
+        → SnoopsPart (scene_of ⟦<K as Keeper>⟧ desk.old (D.view door.old).state)
+        (scene_of ⟦<K as Keeper>⟧ desk.new (D.view door.new).state) }
     ensures taken { D.tells → (D.view door.new).reads ≢ (D.view door.old).reads
-        → SnoopsTaken (scene (session_of desk.old.state) (D.view door.old).state (faults_of ⟦<K as Keeper>⟧ desk.old.keeper))
-        (scene (session_of desk.new.state) (D.view door.new).state (faults_of ⟦<K as Keeper>⟧ desk.new.keeper)) }
+        → SnoopsTaken (scene_of ⟦<K as Keeper>⟧ desk.old (D.view door.old).state)
+        (scene_of ⟦<K as Keeper>⟧ desk.new (D.view door.new).state) }
     ensures keeper { Is KeeperFailed (status_number result) → Rose (faults_of ⟦<K as Keeper>⟧ desk.old.keeper) (faults_of ⟦<K as Keeper>⟧ desk.new.keeper) }
     ensures keeper_steady { IsOneOf (Done ∷ Refused ∷ []) (status_number result) →
         faults_of ⟦<K as Keeper>⟧ desk.new.keeper ≡ faults_of ⟦<K as Keeper>⟧ desk.old.keeper }

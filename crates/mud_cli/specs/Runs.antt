@@ -4,7 +4,7 @@ use Rattle.mud_world.specs.declared.clock.Clock as clock
 use Rattle.mud_world.specs.declared.door.Door as door
 use Rattle.mud_world.specs.declared.keeper.Keeper.{Ghosts}
 use Rattle.mud_world.specs.declared.spool.Spool as spool
-use Rattle.mud_world.specs.View.{OutsideView, outside}
+use Rattle.mud_world.specs.View.{DoorView, OutsideView, outside}
 use Rattle.run_words.specs.declared.command.Command.{Command}
 use Rattle.run_words.specs.declared.command.Command.TheVariants.{Hear, Check, Frames, Judge, Snoop, Tally, Import, Replay, Serve, Report, Export, Drill}
 use Rattle.run_words.specs.Words.{command_in}
@@ -79,23 +79,29 @@ module _ {K : Type 0} (members : Ghosts K)
   abbrev pub seen : World D P C → OutsideView
   seen it = outside (doors.view it.door) (spools.view it.spool) (clocks.moments it.clock)
 
+  abbrev before : DoorView
+  before = doors.view old.door
+
+  abbrev after : DoorView
+  after = doors.view new.door
+
   -- Each command does what its record says: of the door, the keeper, and where it asks the clock, of its moments.
   abbrev pub Does : Command → Type 0
-  Does (Hear message) = AnswersInput doors.tells (Message message) (doors.view old.door) (doors.view new.door) status
-  Does Check = AnswersInput doors.tells UsageFile (doors.view old.door) (doors.view new.door) status
-  Does Frames = WritesFrames doors.tells (doors.view old.door) (doors.view new.door) status
-  Does Judge = JudgesStore members doors.tells keeper returned (doors.view old.door) (doors.view new.door) status
-  Does Snoop = SnoopsStore members doors.tells keeper returned (doors.view old.door) (doors.view new.door) status
-  Does Tally = TalliesStore members doors.tells keeper returned (doors.view old.door) (doors.view new.door) status
+  Does (Hear message) = AnswersInput doors.tells (Message message) before after status
+  Does Check = AnswersInput doors.tells UsageFile before after status
+  Does Frames = WritesFrames doors.tells before after status
+  Does Judge = JudgesStore members doors.tells keeper returned before after status
+  Does Snoop = SnoopsStore members doors.tells keeper returned before after status
+  Does Tally = TalliesStore members doors.tells keeper returned before after status
   Does Import = ImportsStore members (doors.tells × (spools.tells × clocks.tells)) keeper returned (seen old) (seen new) status
-  Does Replay = ReplaysStore members doors.tells keeper returned (doors.view old.door) (doors.view new.door) status
+  Does Replay = ReplaysStore members doors.tells keeper returned before after status
   Does (Serve port count) =
-      ServesStore members doors.tells clocks.tells keeper returned (listening port count) (clock_run (clocks.moments old.clock) (clocks.moments new.clock)) (doors.view old.door) (doors.view new.door) status
+      ServesStore members doors.tells clocks.tells keeper returned (listening port count) (clock_run (clocks.moments old.clock) (clocks.moments new.clock)) before after status
       × (Is KeeperFailed status → new.clock ≡ old.clock)
   Does (Report kind) =
-      ReportsStore members kind doors.tells clocks.tells (clocks.moments old.clock) keeper returned (doors.view old.door) (doors.view new.door) status
+      ReportsStore members kind doors.tells clocks.tells (clocks.moments old.clock) keeper returned before after status
       × AsksClock clocks.tells clocks.moments kind old.clock new.clock status
   Does (Export mac) =
-      ExportsStore members mac doors.tells clocks.tells (clocks.moments old.clock) keeper returned (doors.view old.door) (doors.view new.door) status
+      ExportsStore members mac doors.tells clocks.tells (clocks.moments old.clock) keeper returned before after status
       × AsksClockOnce clocks.tells clocks.moments old.clock new.clock status
-  Does (Drill packets) = DrillsStore members doors.tells packets keeper returned (doors.view old.door) (doors.view new.door) status
+  Does (Drill packets) = DrillsStore members doors.tells packets keeper returned before after status

@@ -30,16 +30,7 @@ url_body word url = codes "{\"result\":" ++ quoted (text_of word) ++ codes ",\"u
 unfoldable pub stated_body : Statement → Outcome → List ℕ
 stated_body statement.Lease o = until_body o.word o.until
 stated_body statement.Observe o = until_body o.word o.until
-stated_body statement.Move o = result_body o.word
-stated_body statement.Remove o = result_body o.word
-stated_body statement.Hold o = result_body o.word
-stated_body statement.Release o = result_body o.word
-stated_body statement.EndLease o = result_body o.word
-stated_body statement.Verdict o = result_body o.word
-stated_body statement.Revoke o = result_body o.word
-stated_body statement.Bind o = result_body o.word
-stated_body statement.Unbind o = result_body o.word
-stated_body statement.Locals o = result_body o.word
+stated_body _ o = result_body o.word
 
 -- ---- What the types say
 

@@ -24,9 +24,7 @@ family_of ToV6 = V6
 -- what stands before the items of a list, and behind them; the text begins with the first list and ends with the last
 unfoldable pub front_of : ListName → List ℕ
 front_of FromV4 = codes "{\"ietf-access-control-list:acls\":{\"acl\":[{\"aces\":{\"ace\":["
-front_of FromV6 = codes ",{\"aces\":{\"ace\":["
-front_of ToV4 = codes ",{\"aces\":{\"ace\":["
-front_of ToV6 = codes ",{\"aces\":{\"ace\":["
+front_of _ = codes ",{\"aces\":{\"ace\":["
 
 unfoldable pub back_of : ListName → List ℕ
 back_of FromV4 = codes "]},\"name\":\"from-v4\",\"type\":\"ipv4-acl-type\"}"

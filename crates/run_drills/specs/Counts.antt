@@ -5,13 +5,11 @@ use Rattle.acl_model.specs.declared.ruling.Ruling.TheVariants.{Accept, AcceptDef
 use Rattle.acl_model.specs.declared.ruling.DefaultRule.TheVariants.{Dns, Ntp}
 use Rattle.acl_model.specs.declared.ruling.Why.TheVariants.{NoFile, NoMatch}
 use Rattle.packet_judge.specs.declared.verdict.Verdict.{Verdict}
-use Rattle.packet_judge.specs.declared.verdict.Verdict.TheVariants.{Unmanaged, Link, Unreadable, Governed}
+use Rattle.packet_judge.specs.declared.verdict.Verdict.TheVariants.{Governed}
 use Rattle.packet_judge.specs.Verdicts.{forwarded}
 use Rattle.text_values.specs.Numbers.{number_text}
 use Rattle.run_drills.specs.declared.counts.RulingCounts.{RulingCounts}
 use Rattle.run_drills.specs.declared.counts.VerdictCounts.{VerdictCounts}
-
--- ---- Kinds of rulings
 
 -- ---- Counts
 
@@ -60,9 +58,7 @@ verdict_counts verdicts = record {
     -- the rulings in a verdict: one for each endpoint that is a Thing
     rulings_in : Verdict → List Ruling
     rulings_in (Governed source destination) = option_to_list source ++ option_to_list destination
-    rulings_in Unmanaged = []
-    rulings_in Link = []
-    rulings_in (Unreadable part) = []
+    rulings_in _ = []
 
 -- ---- One more
 
@@ -79,9 +75,7 @@ with_ruling counts (Some DropHeld) = counts
 
 abbrev pub with_rulings_in : RulingCounts → Verdict → RulingCounts
 with_rulings_in counts (Governed source destination) = with_ruling (with_ruling counts source) destination
-with_rulings_in counts Unmanaged = counts
-with_rulings_in counts Link = counts
-with_rulings_in counts (Unreadable part) = counts
+with_rulings_in counts _ = counts
 
 -- the counts with a verdict more
 unfoldable pub with_verdict : VerdictCounts → Verdict → VerdictCounts

@@ -14,10 +14,10 @@ use Rattle.pcapng_read.specs.declared.fault.NgFault.{NgFault}
 use Rattle.pcapng_read.specs.declared.fault.NgFault.TheVariants as faults
 use Rattle.pcapng_read.specs.declared.head.Kind.{Kind}
 use Rattle.pcapng_read.specs.declared.head.Kind.TheVariants.{SectionHeader, InterfaceDescription, EnhancedPacket, OtherPacket, Other}
-use Rattle.pcapng_read.specs.declared.head.Head.{Head}
+use Rattle.pcapng_read.specs.declared.head.BlockHead.{BlockHead}
 use Rattle.pcapng_read.specs.declared.standing.Section.{Section}
 use Rattle.pcapng_read.specs.declared.standing.Standing.{Standing}
-use Rattle.pcapng_read.specs.declared.standing.Current.{Current}
+use Rattle.pcapng_read.specs.declared.standing.NgCurrent.{NgCurrent}
 use Rattle.pcapng_read.specs.Blocks.{NgPackets, head_of, head_rows, body_rows, standing_behind, packets_in, is_read}
 use Rattle.pcapng_read.specs.Parts.{Begins, blocks_at, coming_next, current_in, packet_in}
 use Rattle.pcapng_read.specs.Fault.{is_cut}
@@ -55,7 +55,7 @@ module _ (at : Standing) (h k : List ℕ) (s t : DoorState) (f : Fetched h k s t
   pub head_cut : 0 < length k → at.blocks < 100000000 → length k < 12 → t.left ≡ [] → EndsIn (faults.Cut at.offset) (behind (blocks_at at) h) s t
   head_cut some few short none = broken_here (faults.Cut at.offset) (blocks_broken at k (faults.Cut at.offset) some (rows_short at k few short)) none
 
-  pub head_refused : (octets : List ℕ) (answer : Head) (fault : NgFault) → 12 ≤ length k → at.blocks < 100000000 → octets ≡ take 12 k → Err fault ≡ unless (head_rows at octets) (Ok answer)
+  pub head_refused : (octets : List ℕ) (answer : BlockHead) (fault : NgFault) → 12 ≤ length k → at.blocks < 100000000 → octets ≡ take 12 k → Err fault ≡ unless (head_rows at octets) (Ok answer)
       → EndsIn fault (behind (blocks_at at) h) s t
   head_refused octets answer fault enough few front is =
       let found : first_row (head_rows at (take 12 k)) ≡ Some fault = ap (λ (octets : List ℕ). first_row (head_rows at octets)) (sym front) ∙ refused (head_rows at octets) answer fault is in
@@ -63,7 +63,7 @@ module _ (at : Standing) (h k : List ℕ) (s t : DoorState) (f : Fetched h k s t
       (λ more. blocks_broken at (k ++ more) fault (omega (arith, length-append k more)) (rows_head at k more fault enough few found))
 
 -- the octets that come behind change nothing in the head
-pub begins_more : (at : Standing) (head : Head) (h k : List ℕ) (s t : DoorState) → Begins at head h → Fetched h k s t → Begins at head k
+pub begins_more : (at : Standing) (head : BlockHead) (h k : List ℕ) (s t : DoorState) → Begins at head h → Fetched h k s t → Begins at head k
 begins_more at head h k s t b f =
     let front : take 12 h ≡ take 12 k = sym (take-append-le 12 h f.octets b.enough) ∙ ap (take 12) (sym f.held) in
     let size : length k ≡ length (h ++ f.octets) = ap (λ (octets : List ℕ). length octets) f.held in
@@ -78,7 +78,7 @@ begins_more at head h k s t b f =
 
 -- A block that is looked into
 
-module _ (at : Standing) (head : Head) (h k : List ℕ) (s t : DoorState) (b : Begins at head h) (f : Fetched h k s t) where
+module _ (at : Standing) (head : BlockHead) (h k : List ℕ) (s t : DoorState) (b : Begins at head h) (f : Fetched h k s t) where
   now : Begins at head k
   now = begins_more at head h k s t b f
 
@@ -108,14 +108,14 @@ module _ (at : Standing) (head : Head) (h k : List ℕ) (s t : DoorState) (b : B
         broken_now at h k s t f (faults.Length at.offset)
         (λ more. block_ends at head k now more (long more) (λ is. other (sym (last more) ∙ is)))
 
-    module _ (ended : number_32 head.order (head.total - 4) block ≡ head.total) (answer : Option Current) where
+    module _ (ended : number_32 head.order (head.total - 4) block ≡ head.total) (answer : Option NgCurrent) where
       pub whole_refused : (fault : NgFault) → Err fault ≡ unless (body_rows head at block) (Ok answer) → EndsIn fault (behind (blocks_at at) h) s t
       whole_refused fault is =
           broken_now at h k s t f fault
           (λ more. block_refused at head k now more fault (long more) (last more ∙ ended)
           (ap (λ (octets : List ℕ). first_row (body_rows head at octets)) (same more) ∙ refused (body_rows head at block) answer fault is))
 
-      pub whole_follows : (found : Option Current) (given m : List ℕ) (new : Standing) → Ok found ≡ unless (body_rows head at block) (Ok answer) → answer ≡ current_in head.kind at block
+      pub whole_follows : (found : Option NgCurrent) (given m : List ℕ) (new : Standing) → Ok found ≡ unless (body_rows head at block) (Ok answer) → answer ≡ current_in head.kind at block
           → new ≡ standing_behind head at block → given ≡ take head.total k → m ≡ drop head.total k
           → Follows (behind (blocks_at at) h) (behind (coming_next found given new) m) s t
       whole_follows found given m new is said behind_it gave rest =
@@ -127,7 +127,7 @@ module _ (at : Standing) (head : Head) (h k : List ℕ) (s t : DoorState) (b : B
           ∙ ap (λ (octets : List ℕ). with_all (packets_in head.kind at octets) (blocks_at (standing_behind head at octets) (drop head.total (k ++ more)))) (same more)
           ∙ ap₂ (λ (a : Standing) (octets : List ℕ). with_all (packets_in head.kind at block) (blocks_at a octets)) (sym behind_it) (drop-append-le head.total k more enough ∙ ap (λ (octets : List ℕ). octets ++ more) (sym rest))
           ∙ next_packet head.kind at block later
-          ∙ ap₂ (λ (c : Option Current) (octets : List ℕ). with_next (packet_in c octets) later) (sym (sound.1 ∙ said)) (front ∙ sym gave))
+          ∙ ap₂ (λ (c : Option NgCurrent) (octets : List ℕ). with_next (packet_in c octets) later) (sym (sound.1 ∙ said)) (front ∙ sym gave))
 
 -- A block that is passed over
 
@@ -165,7 +165,7 @@ packets_over EnhancedPacket at block later over = cc
 packets_over OtherPacket at block later over = refl
 packets_over Other at block later over = refl
 
-module _ (at : Standing) (head : Head) (h : List ℕ) (s t : DoorState) (b : Begins at head h) where
+module _ (at : Standing) (head : BlockHead) (h : List ℕ) (s t : DoorState) (b : Begins at head h) where
   short_ends : (p : FallsShort head.total h s t) → blocks_at at (h ++ p.octets) ≡ broken (faults.Cut at.offset)
   short_ends p = block_cut at head h b p.octets p.short
 
@@ -230,7 +230,7 @@ module _ (at : Standing) (head : Head) (h : List ℕ) (s t : DoorState) (b : Beg
         over_now (faults.Length at.offset)
         (λ more. block_ends at head h b (p.octets ++ more) (there more) (λ is. other (sym (last_number more) ∙ is)))
 
-    module _ (ended : number_32 head.order 0 k ≡ head.total) (answer : Option Current) (over : is_read head.kind ≡ false) where
+    module _ (ended : number_32 head.order 0 k ≡ head.total) (answer : Option NgCurrent) (over : is_read head.kind ≡ false) where
       rows : (more : List ℕ) → first_row (body_rows head at (take head.total (h ++ (p.octets ++ more)))) ≡ first_row (body_rows head at [])
       unfolding body_rows
       rows more = ap (λ (table : List (Option NgFault)). first_row table) (rows_over head.kind head.order at (take head.total (h ++ (p.octets ++ more))) over)
@@ -244,7 +244,7 @@ module _ (at : Standing) (head : Head) (h : List ℕ) (s t : DoorState) (b : Beg
       unfolding standing_behind
       standing_over block = ap (λ (section : Section). record { section = section; blocks = at.blocks + 1; packets = (standing_behind head at []).packets; offset = at.offset + head.total }) (section_over head.kind head.order at.section block over)
 
-      pub over_follows : (found : Option Current) (m : List ℕ) (new : Standing) → Ok found ≡ unless (body_rows head at []) (Ok answer) → new ≡ standing_behind head at [] → m ≡ drop 4 k
+      pub over_follows : (found : Option NgCurrent) (m : List ℕ) (new : Standing) → Ok found ≡ unless (body_rows head at []) (Ok answer) → new ≡ standing_behind head at [] → m ≡ drop 4 k
           → Follows (behind (blocks_at at) h) (behind (blocks_at new) m) s t
       over_follows found m new is behind_it rest =
           let sound = answered (body_rows head at []) answer found is in

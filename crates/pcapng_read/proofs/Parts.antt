@@ -10,7 +10,7 @@ use Rattle.pcapng_read.specs.Blocks.{option_rows, options_in, packet_rows, inter
 use Rattle.mud_base.specs.Faults.{row}
 use Rattle.pcapng_read.specs.declared.standing.Section.{Section}
 use Rattle.read_buffer.specs.Packets.{broken, with_all}
-use Rattle.pcapng_read.specs.declared.head.Head.{Head}
+use Rattle.pcapng_read.specs.declared.head.BlockHead.{BlockHead}
 use Rattle.mud_base.specs.Numbers.{number_16}
 
 abbrev pub section_behind : Kind → ByteOrder → Section → List ℕ → Section
@@ -30,7 +30,7 @@ abbrev pub unless_broken : Option NgFault → NgPackets → NgPackets
 unless_broken None packets = packets
 unless_broken (Some fault) packets = broken fault
 
-abbrev pub with_block : Head → Standing → List ℕ → NgPackets → NgPackets
+abbrev pub with_block : BlockHead → Standing → List ℕ → NgPackets → NgPackets
 with_block head at octets later = with_all (packets_in head.kind at (take head.total octets)) later
 
 abbrev pub filled : ℕ → ℕ

@@ -10,8 +10,8 @@ use Rattle.read_buffer.proofs.Readings.{follows, follows_more}
 use Rattle.pcapng_read.specs.declared.fault.NgFault.{NgFault}
 use Rattle.pcapng_read.specs.declared.head.Kind.{Kind}
 use Rattle.pcapng_read.specs.declared.head.Kind.TheVariants.{SectionHeader, InterfaceDescription, EnhancedPacket, OtherPacket, Other}
-use Rattle.pcapng_read.specs.declared.head.Head.{Head}
-use Rattle.pcapng_read.specs.declared.standing.Current.{Current}
+use Rattle.pcapng_read.specs.declared.head.BlockHead.{BlockHead}
+use Rattle.pcapng_read.specs.declared.standing.NgCurrent.{NgCurrent}
 use Rattle.pcapng_read.specs.declared.standing.Standing.{Standing}
 use Rattle.pcapng_read.specs.declared.standing.Met.TheVariants.{End, Block}
 use Rattle.pcapng_read.specs.Blocks.{NgPackets, head_of, is_read}
@@ -42,10 +42,10 @@ unfolding is_decided
 decided_whole order held decided = grind (arith, nat_tests)
 
 -- the same of the head that was read of them
-pub decided_now : (order : ByteOrder) (h k : List ℕ) (head : Head) → IsTrue (is_decided order h) → k ≡ h → head ≡ head_of order (take 12 k) → (head.total ≤ length k) × (is_packet head.kind ≡ true)
+pub decided_now : (order : ByteOrder) (h k : List ℕ) (head : BlockHead) → IsTrue (is_decided order h) → k ≡ h → head ≡ head_of order (take 12 k) → (head.total ≤ length k) × (is_packet head.kind ≡ true)
 decided_now order h k head decided same says = rw (says, same) (decided_whole order h decided, decided_packet order h decided)
 
-pub block_no_end : (current : Option Current) → Block current ≡ End → ⊥
+pub block_no_end : (current : Option NgCurrent) → Block current ≡ End → ⊥
 block_no_end current e = cc
 
 -- a reader between two blocks, at the end of the octets

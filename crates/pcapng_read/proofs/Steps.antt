@@ -12,7 +12,7 @@ use Rattle.pcapng_read.specs.declared.fault.NgFault.{NgFault}
 use Rattle.pcapng_read.specs.declared.fault.NgFault.TheVariants as faults
 use Rattle.pcapng_read.specs.declared.head.Kind.{Kind}
 use Rattle.pcapng_read.specs.declared.head.Kind.TheVariants.{SectionHeader, InterfaceDescription, EnhancedPacket, OtherPacket, Other}
-use Rattle.pcapng_read.specs.declared.head.Head.{Head}
+use Rattle.pcapng_read.specs.declared.head.BlockHead.{BlockHead}
 use Rattle.pcapng_read.specs.declared.standing.Standing.{Standing}
 use Rattle.pcapng_read.specs.Blocks.{NgPackets, head_of, head_rows, rest_rows, body_rows, least_of, packets_in, standing_behind, blocks_from}
 use Rattle.pcapng_read.specs.Parts.{Begins, blocks_at, current_in, packet_in}
@@ -86,7 +86,7 @@ unfolding blocks_from
 blocks_broken at [] fault some found = absurd (omega arith)
 blocks_broken at (octet ∷ behind) fault some found = rw found refl
 
-blocks_go : (at : Standing) (head : Head) (octets : List ℕ) → 0 < length octets → first_row (block_rows at octets) ≡ None → head ≡ head_of at.section.order (take 12 octets) → 1 ≤ head.total
+blocks_go : (at : Standing) (head : BlockHead) (octets : List ℕ) → 0 < length octets → first_row (block_rows at octets) ≡ None → head ≡ head_of at.section.order (take 12 octets) → 1 ≤ head.total
     → blocks_at at octets ≡ with_block head at octets (blocks_at (standing_behind head at (take head.total octets)) (drop head.total octets))
 unfolding blocks_from
 blocks_go at head [] some none is least = absurd (omega arith)
@@ -136,7 +136,7 @@ blocks_wait at (octet ∷ behind) short beyond =
 
 -- Behind the head of a block
 
-module _ (at : Standing) (head : Head) (k : List ℕ) (b : Begins at head k) where
+module _ (at : Standing) (head : BlockHead) (k : List ℕ) (b : Begins at head k) where
   some : (more : List ℕ) → 0 < length (k ++ more)
   some more = omega (arith, length-append k more, b.enough)
 
@@ -144,7 +144,7 @@ module _ (at : Standing) (head : Head) (k : List ℕ) (b : Begins at head k) whe
   rows_behind more =
       rows_of at k more b.enough b.few
       ∙ first_none (head_rows at (take 12 k)) (rest_rows (head_of at.section.order (take 12 k)) at (k ++ more)) b.sound
-      ∙ ap (λ (h : Head). first_row (rest_rows h at (k ++ more))) (sym b.says)
+      ∙ ap (λ (h : BlockHead). first_row (rest_rows h at (k ++ more))) (sym b.says)
 
   pub block_cut : (more : List ℕ) → length (k ++ more) < head.total → blocks_at at (k ++ more) ≡ broken (faults.Cut at.offset)
   block_cut more short = blocks_broken at (k ++ more) (faults.Cut at.offset) (some more) (rows_behind more ∙ rw (lt-ltb (length (k ++ more)) head.total short) refl)
@@ -172,7 +172,7 @@ module _ (at : Standing) (head : Head) (k : List ℕ) (b : Begins at head k) whe
       (b.says ∙ ap (head_of at.section.order) (sym (take-append-le 12 k more b.enough)))
       (omega (arith, least_some head.kind, b.least))
 
-pub least_total : (at : Standing) (head : Head) (k : List ℕ) → Begins at head k → 12 ≤ head.total
+pub least_total : (at : Standing) (head : BlockHead) (k : List ℕ) → Begins at head k → 12 ≤ head.total
 least_total at head k b = omega (arith, least_some head.kind, b.least)
 
 -- the packet of a block, as it is handed out

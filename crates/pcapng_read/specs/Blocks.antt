@@ -9,7 +9,7 @@ use Rattle.pcapng_read.specs.declared.fault.NgFault.{NgFault}
 use Rattle.pcapng_read.specs.declared.fault.NgFault.TheVariants as faults
 use Rattle.pcapng_read.specs.declared.head.Kind.{Kind}
 use Rattle.pcapng_read.specs.declared.head.Kind.TheVariants.{SectionHeader, InterfaceDescription, EnhancedPacket, OtherPacket, Other}
-use Rattle.pcapng_read.specs.declared.head.Head.{Head}
+use Rattle.pcapng_read.specs.declared.head.BlockHead.{BlockHead}
 use Rattle.pcapng_read.specs.declared.standing.Section.{Section}
 use Rattle.pcapng_read.specs.declared.standing.Standing.{Standing}
 use Rattle.pcapng_read.specs.Interfaces.{Interface}
@@ -48,10 +48,10 @@ kind_of order head =
     else (if number_32 order 0 head == 6 then EnhancedPacket
     else (if number_32 order 0 head == 2 || number_32 order 0 head == 3 then OtherPacket else Other)))
 
-unfoldable pub head_of : ByteOrder → List ℕ → Head
+unfoldable pub head_of : ByteOrder → List ℕ → BlockHead
 head_of order head = head_by (unwrap_or (own_order order head) Big) head
   where
-    head_by : ByteOrder → List ℕ → Head
+    head_by : ByteOrder → List ℕ → BlockHead
     head_by order head = record { kind = kind_of order head; order = order; total = number_32 order 4 head }
 
 -- the least total length
@@ -130,7 +130,7 @@ packet_rows offset section block =
 
 -- ---- Any block: the faults of its body in their order, and what it leaves
 
-unfoldable pub body_rows : Head → Standing → List ℕ → List (Option NgFault)
+unfoldable pub body_rows : BlockHead → Standing → List ℕ → List (Option NgFault)
 body_rows head at block = body_rows_of head.kind head.order at block
   where
     is_read_version : ByteOrder → List ℕ → Bool
@@ -159,7 +159,7 @@ packets_in EnhancedPacket at block = record {
 } ∷ []
 packets_in _ at block = []
 
-unfoldable pub standing_behind : Head → Standing → List ℕ → Standing
+unfoldable pub standing_behind : BlockHead → Standing → List ℕ → Standing
 standing_behind head at block = record {
   section = section_behind head.kind head.order at.section block;
   blocks = at.blocks + 1;
@@ -176,7 +176,7 @@ standing_behind head at block = record {
 -- ---- Block after block
 
 -- the faults of the block that begins these octets, behind its head
-abbrev pub rest_rows : Head → Standing → List ℕ → List (Option NgFault)
+abbrev pub rest_rows : BlockHead → Standing → List ℕ → List (Option NgFault)
 rest_rows head at octets =
     row (nat_lt (length octets) head.total) (faults.Cut at.offset)
     ∷ row (not (number_32 head.order (head.total - 4) (take head.total octets) == head.total)) (faults.Length at.offset)
@@ -205,7 +205,7 @@ blocks_from zero at (octet ∷ behind) =
     unless_broken (Some fault) packets = broken fault
 
     -- the packets of the block with this head that begins these octets, and those behind it
-    with_block : Head → Standing → List ℕ → NgPackets → NgPackets
+    with_block : BlockHead → Standing → List ℕ → NgPackets → NgPackets
     with_block head at octets later = with_all (packets_in head.kind at (take head.total octets)) later
 
 abbrev pub at_start : Standing

@@ -6,19 +6,19 @@ use Rattle.read_buffer.specs.Packets.{Packet, broken, with_next}
 use Rattle.pcapng_read.specs.declared.fault.NgFault.{NgFault}
 use Rattle.pcapng_read.specs.declared.head.Kind.{Kind}
 use Rattle.pcapng_read.specs.declared.head.Kind.TheVariants.{SectionHeader, InterfaceDescription, EnhancedPacket, OtherPacket, Other}
-use Rattle.pcapng_read.specs.declared.head.Head.{Head}
+use Rattle.pcapng_read.specs.declared.head.BlockHead.{BlockHead}
 use Rattle.pcapng_read.specs.declared.standing.Standing.{Standing}
-use Rattle.pcapng_read.specs.declared.standing.Current.{Current}
+use Rattle.pcapng_read.specs.declared.standing.NgCurrent.{NgCurrent}
 use Rattle.pcapng_read.specs.declared.standing.Met.{Met}
 use Rattle.pcapng_read.specs.declared.standing.Met.TheVariants.{End, Block}
 use Rattle.pcapng_read.specs.Blocks.{NgPackets, head_of, head_rows, least_of, is_read, seconds_of, captured_len, blocks_from}
 
 -- what is known of the packet of a block beside its octets
-abbrev pub current_of : Standing → List ℕ → Current
+abbrev pub current_of : Standing → List ℕ → NgCurrent
 current_of at block = record { number = at.packets + 1; at = at.offset; seconds = seconds_of at.section block; len = captured_len at.section.order block }
 
 -- the same of any block
-abbrev pub current_in : Kind → Standing → List ℕ → Option Current
+abbrev pub current_in : Kind → Standing → List ℕ → Option NgCurrent
 current_in SectionHeader at block = None
 current_in InterfaceDescription at block = None
 current_in EnhancedPacket at block = Some (current_of at block)
@@ -37,7 +37,7 @@ abbrev pub blocks_at : Standing → List ℕ → NgPackets
 blocks_at at octets = blocks_from 0 at octets
 
 -- The octets held begin with this head, and nothing is wrong with it.
-pub record Begins (at : Standing) (head : Head) (held : List ℕ) : Type 0 where
+pub record Begins (at : Standing) (head : BlockHead) (held : List ℕ) : Type 0 where
   pub enough : 12 ≤ length held
   pub few : at.blocks < 100000000
   pub says : head ≡ head_of at.section.order (take 12 held)
@@ -52,7 +52,7 @@ pub record IsWithin (at : Standing) : Type 0 where
   pub near : at.offset ≤ 4294967295 * at.blocks
 
 -- the packet of the block that was given, if it has one
-abbrev pub packet_in : Option Current → List ℕ → Option Packet
+abbrev pub packet_in : Option NgCurrent → List ℕ → Option Packet
 packet_in None given = None
 packet_in (Some current) given = Some (record {
   number = current.number;
@@ -62,7 +62,7 @@ packet_in (Some current) given = Some (record {
 })
 
 -- with the packet of the block that was given, if it has one
-abbrev pub coming_next : Option Current → List ℕ → Standing → List ℕ → NgPackets
+abbrev pub coming_next : Option NgCurrent → List ℕ → Standing → List ℕ → NgPackets
 coming_next current given at octets = with_next (packet_in current given) (blocks_at at octets)
 
 -- behind a block, or between two blocks where there is none
@@ -71,7 +71,7 @@ behind_met End given at octets = blocks_at at octets
 behind_met (Block current) given at octets = coming_next current given at octets
 
 -- the packet that was met, if any
-abbrev pub current_met : Met → Option Current
+abbrev pub current_met : Met → Option NgCurrent
 current_met End = None
 current_met (Block current) = current
 

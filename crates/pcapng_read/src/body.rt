@@ -8,10 +8,10 @@ ghost use Rattle.pcapng_read.specs.Fault.{has_failed};
 ghost use Rattle.pcapng_read.specs.Parts.{IsWithin, current_of, current_in, is_packet};
 
 use crate::fault::NgFault;
-use crate::head::{Head, Kind};
+use crate::head::{BlockHead, Kind};
 use crate::interfaces::MOST_INTERFACES;
 use crate::options::interface_in;
-use crate::standing::{Current, Standing};
+use crate::standing::{NgCurrent, Standing};
 use mud_base::{ByteOrder, number_16, number_32};
 
 /// Where the major version stands in a section header (section 4.1).
@@ -64,7 +64,7 @@ fn time_in(order: ByteOrder, block: &[u8]) -> u64
 
 /// The packet of a block, or what is wrong with it.
 #[tactic(auto, unfolding(crate::specs::Blocks::seconds_of, crate::specs::Blocks::captured_len))]
-fn packet_in(standing: &Standing, block: &[u8]) -> Result<Current, NgFault>
+fn packet_in(standing: &Standing, block: &[u8]) -> Result<NgCurrent, NgFault>
     requires whole { 32 ≤ length block.now }
     requires few { standing.now.packets < 100000000 }
     ensures value { result ≡ unless (spec.packet_rows standing.now.offset standing.now.section block.now) (Ok (current_of standing.now block.now)) }
@@ -90,7 +90,7 @@ fn packet_in(standing: &Standing, block: &[u8]) -> Result<Current, NgFault>
     if seconds > u64::from(u32::MAX) {
         return Err(NgFault::Late(offset));
     }
-    Ok(Current {
+    Ok(NgCurrent {
         number: standing.packets + 1,
         at: offset,
         seconds: seconds as u32,
@@ -99,7 +99,7 @@ fn packet_in(standing: &Standing, block: &[u8]) -> Result<Current, NgFault>
 }
 
 /// Goes behind a block.
-fn go_behind(standing: &mut Standing, head: Head)
+fn go_behind(standing: &mut Standing, head: BlockHead)
     requires within { IsWithin standing.old }
     requires few { standing.old.blocks < 100000000 }
     requires total { head.total ≤ 4294967295 }
@@ -120,9 +120,9 @@ fn go_behind(standing: &mut Standing, head: Head)
 #[tactic(auto, unfolding(crate::specs::Blocks::is_read, crate::specs::Blocks::least_of, crate::specs::Blocks::body_rows, crate::specs::Blocks::standing_behind))]
 pub(crate) fn take_block(
     standing: &mut Standing,
-    head: Head,
+    head: BlockHead,
     block: &[u8],
-) -> Result<Option<Current>, NgFault>
+) -> Result<Option<NgCurrent>, NgFault>
     requires within { IsWithin standing.old }
     requires few { standing.old.blocks < 100000000 }
     requires total { head.total ≤ 4294967295 }

@@ -49,7 +49,7 @@ pub enum Kind {
 /// What counts of a head: what the block is, the order of the octets of its numbers, and its total
 /// length.
 #[derive(Clone, Copy)]
-pub struct Head {
+pub struct BlockHead {
     pub kind: Kind,
     pub order: ByteOrder,
     pub total: usize,
@@ -110,12 +110,12 @@ fn kind_of(order: ByteOrder, head: &[u8]) -> Kind
 
 /// What counts of a head, within a section of this order.
 #[tactic(auto, unfolding(crate::specs::Blocks::head_of))]
-pub(crate) fn head_of(order: ByteOrder, head: &[u8]) -> Head
+pub(crate) fn head_of(order: ByteOrder, head: &[u8]) -> BlockHead
     requires { 12 ≤ length head.now }
     ensures { result ≡ spec.head_of order head.now }
 {
     let order = own_order(order, head).unwrap_or(ByteOrder::Big);
-    Head {
+    BlockHead {
         kind: kind_of(order, head),
         order,
         total: number_32(order, head, TOTAL_OFFSET) as usize,
@@ -148,7 +148,7 @@ pub(crate) fn is_read(kind: Kind) -> bool
 }
 
 /// What counts of the head of the next block, or what is wrong with it.
-pub(crate) fn head_in(standing: &Standing, octets: &[u8]) -> Result<Head, NgFault>
+pub(crate) fn head_in(standing: &Standing, octets: &[u8]) -> Result<BlockHead, NgFault>
     requires { 12 ≤ length octets.now }
     ensures value { result ≡ unless (spec.head_rows standing.now octets.now) (Ok (spec.head_of standing.now.section.order octets.now)) }
     ensures least { IfOk result (λ head. spec.least_of head.kind ≤ head.total) }

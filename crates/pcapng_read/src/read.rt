@@ -11,8 +11,8 @@ ghost use Rattle.pcapng_read.specs.Reading.{EndsIn, FallsShort, Passes};
 
 use crate::body::take_block;
 use crate::fault::NgFault;
-use crate::head::{HEAD_LEN, Head, MOST_OCTETS, head_in, is_read};
-use crate::standing::{Current, Met, Standing};
+use crate::head::{BlockHead, HEAD_LEN, MOST_OCTETS, head_in, is_read};
+use crate::standing::{Met, NgCurrent, Standing};
 use mud_base::number_32;
 use mud_world::{Door, Failed};
 use read_buffer::{Buffer, fetch, wanted_behind};
@@ -27,7 +27,7 @@ fn read_head<D: Door>(
     source: &mut D,
     buffer: &mut Buffer<MOST_OCTETS>,
     standing: &Standing,
-) -> Result<Option<Head>, NgFault>
+) -> Result<Option<BlockHead>, NgFault>
     ensures octets { D.tells → OnOk result (Fetched buffer.old.held buffer.new.held (D.view source.old).state (D.view source.new).state) }
     ensures begins { IfOk result (λ head. IfSome head (λ h. Begins standing.now h buffer.new.held)) }
     ensures end { D.tells → IfOk result (λ head. head ≡ None → (buffer.new.held ≡ []) × ((D.view source.new).state.left ≡ [])) }
@@ -63,8 +63,8 @@ fn read_whole<D: Door>(
     source: &mut D,
     buffer: &mut Buffer<MOST_OCTETS>,
     standing: &mut Standing,
-    head: Head,
-) -> Result<Option<Current>, NgFault>
+    head: BlockHead,
+) -> Result<Option<NgCurrent>, NgFault>
     requires begins { Begins standing.old head buffer.old.held }
     requires looked_into { spec.is_read head.kind ≡ true }
     requires within { IsWithin standing.old }
@@ -157,7 +157,7 @@ fn read_over<D: Door>(
     source: &mut D,
     buffer: &mut Buffer<MOST_OCTETS>,
     standing: &mut Standing,
-    head: Head,
+    head: BlockHead,
 ) -> Result<(), NgFault>
     requires begins { Begins standing.old head buffer.old.held }
     requires looked_into { spec.is_read head.kind ≡ false }
@@ -224,7 +224,7 @@ pub(crate) fn step<D: Door>(
     source: &mut D,
     buffer: &mut Buffer<MOST_OCTETS>,
     standing: &mut Standing,
-) -> Result<Option<Current>, NgFault>
+) -> Result<Option<NgCurrent>, NgFault>
     requires { IsWithin standing.old }
     ensures ok { D.tells → IfOk result (λ found.
         Follows (behind (blocks_at standing.old) buffer.old.held) (behind (coming_next found buffer.new.given standing.new) buffer.new.held)

@@ -15,7 +15,7 @@ use crate::body::OCTETS_OFFSET;
 use crate::fault::NgFault;
 use crate::head::{HEAD_LEN, Kind, MOST_OCTETS, head_of};
 use crate::read::step;
-use crate::standing::{Current, Standing};
+use crate::standing::{NgCurrent, Standing};
 use mud_base::{ByteOrder, Memory};
 use mud_world::Door;
 use pcap_read::Captured;
@@ -53,7 +53,7 @@ pub struct NgReader {
     buffer: Buffer<MOST_OCTETS>,
     standing: Standing,
     fault: Option<NgFault>,
-    current: Option<Current>,
+    current: Option<NgCurrent>,
 }
 
 impl Model for NgReader {

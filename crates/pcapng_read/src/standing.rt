@@ -42,7 +42,7 @@ impl Standing {
 /// What is known of a packet beside the octets of its block: its number, the octet where its block
 /// begins, its seconds, and how many octets were captured.
 #[derive(Clone, Copy)]
-pub struct Current {
+pub struct NgCurrent {
     pub number: u32,
     pub at: u64,
     pub seconds: u32,
@@ -53,5 +53,5 @@ pub struct Current {
 #[derive(Clone, Copy)]
 pub enum Met {
     End,
-    Block(Option<Current>),
+    Block(Option<NgCurrent>),
 }

@@ -12,5 +12,5 @@ pub use behind::{Behind, Unclosed};
 pub use told::{
     tell_door, tell_input, tell_octets, tell_spool, tell_store, tell_waiting, tell_words,
 };
-pub use unread_input::{Broken, Input, broken_of, input_of};
+pub use unread_input::{BrokenRule, InputFormat, broken_of, input_of};
 pub use wrong_words::{Operand, WordFault, word_fault};

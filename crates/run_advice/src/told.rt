@@ -1,6 +1,6 @@
 //! What standard error is told of a run. Whether it takes that changes nothing.
 use crate::behind::{Behind, Unclosed};
-use crate::unread_input::{Broken, Input, broken_of, input_of};
+use crate::unread_input::{BrokenRule, InputFormat, broken_of, input_of};
 use crate::wrong_words::{Operand, WordFault, word_fault};
 use io_system::{Call, Failure, RealSpool};
 use run_common::Status;
@@ -159,19 +159,19 @@ pub fn tell_input(rt: HostRuntime, command: Option<Command>, first: &[u8], last:
         return;
     };
     match (input_of(first), broken) {
-        (Input::Gzip, _) => tell_packed(rt, "gzip", "zcat", line),
-        (Input::Zstandard, _) => tell_packed(rt, "zstd", "zstdcat", line),
-        (Input::Bzip2, _) => tell_packed(rt, "bzip2", "bzcat", line),
-        (Input::Xz, _) => tell_packed(rt, "xz", "xzcat", line),
-        (Input::Classic(link), _) => tell_link(rt, link),
-        (Input::NextGeneration, Broken::LinkType) => tell(
+        (InputFormat::Gzip, _) => tell_packed(rt, "gzip", "zcat", line),
+        (InputFormat::Zstandard, _) => tell_packed(rt, "zstd", "zstdcat", line),
+        (InputFormat::Bzip2, _) => tell_packed(rt, "bzip2", "bzcat", line),
+        (InputFormat::Xz, _) => tell_packed(rt, "xz", "xzcat", line),
+        (InputFormat::Classic(link), _) => tell_link(rt, link),
+        (InputFormat::NextGeneration, BrokenRule::LinkType) => tell(
             rt,
             "the packet at that octet came by an interface of another link than Ethernet: capture at an interface of Ethernet, and not at 'any'; where the capture has several, those of the first alone: tshark -r IN -Y 'frame.interface_id==0' -w OUT",
         ),
-        (Input::NextGeneration, Broken::Magic) => {
+        (InputFormat::NextGeneration, BrokenRule::Magic) => {
             tell(rt, "the section of the capture at that octet is damaged");
         }
-        (Input::Other, _) => tell(
+        (InputFormat::Other, _) => tell(
             rt,
             "the input is no capture in the classic format or in pcapng; one in another format: tshark -F pcap -r IN -w OUT",
         ),

@@ -7,7 +7,7 @@ use mud_base::{ByteOrder, number_32};
 
 /// What an input is, by its first octets.
 #[derive(Clone, Copy)]
-pub enum Input {
+pub enum InputFormat {
     /// Gzip's (RFC 1952, section 2.3.1).
     Gzip,
     /// Zstandard's (RFC 8878, section 3.1.1).
@@ -27,7 +27,7 @@ pub enum Input {
 
 /// The rule that a capture breaks where what it is says what to do.
 #[derive(Clone, Copy)]
-pub enum Broken {
+pub enum BrokenRule {
     /// That of its magic number.
     Magic,
     /// That of its link type.
@@ -61,39 +61,39 @@ fn has_magic(order: ByteOrder, header: &[u8]) -> bool
 }
 
 /// A capture in the classic format, where the octets are the header of one.
-fn classic(first: &[u8]) -> Input
+fn classic(first: &[u8]) -> InputFormat
     ensures { result ≡ spec.classic first.now }
 {
     if first.len() < HEADER_LEN {
-        return Input::Other;
+        return InputFormat::Other;
     }
     if has_magic(ByteOrder::Big, first) {
-        return Input::Classic(number_32(ByteOrder::Big, first, 20));
+        return InputFormat::Classic(number_32(ByteOrder::Big, first, 20));
     }
     if has_magic(ByteOrder::Little, first) {
-        return Input::Classic(number_32(ByteOrder::Little, first, 20));
+        return InputFormat::Classic(number_32(ByteOrder::Little, first, 20));
     }
-    Input::Other
+    InputFormat::Other
 }
 
 /// What an input is that begins with these octets, 24 of it or all.
-pub fn input_of(first: &[u8]) -> Input
+pub fn input_of(first: &[u8]) -> InputFormat
     ensures { result ≡ spec.input_of first.now }
 {
     if first.starts_with(&GZIP) {
-        return Input::Gzip;
+        return InputFormat::Gzip;
     }
     if first.starts_with(&ZSTANDARD) {
-        return Input::Zstandard;
+        return InputFormat::Zstandard;
     }
     if first.starts_with(&BZIP2) {
-        return Input::Bzip2;
+        return InputFormat::Bzip2;
     }
     if first.starts_with(&XZ) {
-        return Input::Xz;
+        return InputFormat::Xz;
     }
     if first.starts_with(&SECTION_HEADER) {
-        return Input::NextGeneration;
+        return InputFormat::NextGeneration;
     }
     classic(first)
 }
@@ -107,16 +107,16 @@ fn has_text(octets: &[u8], text: &[u8]) -> bool
 
 /// Which rule the last line names, where what was written ends with these octets. No other line of a
 /// capture's packets has these words.
-pub fn broken_of(last: &[u8]) -> Option<Broken>
+pub fn broken_of(last: &[u8]) -> Option<BrokenRule>
     ensures { spec.Names last.now result }
 {
     let is_magic = has_text(last, b"fault Magic");
     let is_link = has_text(last, b"fault LinkType");
     if is_magic {
-        return Some(Broken::Magic);
+        return Some(BrokenRule::Magic);
     }
     if is_link {
-        return Some(Broken::LinkType);
+        return Some(BrokenRule::LinkType);
     }
     None
 }

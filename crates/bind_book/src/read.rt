@@ -81,10 +81,7 @@ fn read_count(reader: &mut FieldReader<'_>) -> Option<u16>
     if reader.version().is_err() {
         return None;
     }
-    match reader.list() {
-        Ok(count) => Some(count),
-        Err(_) => None,
-    }
+    reader.list().ok()
 }
 
 /// The list of a body, or None where there is none, or something behind it.

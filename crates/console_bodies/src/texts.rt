@@ -18,10 +18,7 @@ use std::alloc::Global;
 fn url_in(text: &str) -> Option<MudUrl>
     ensures { result ≡ spec.url_in text.now }
 {
-    match mud_url(text.as_bytes()) {
-        Ok(url) => Some(url),
-        Err(_) => None,
-    }
+    mud_url(text.as_bytes()).ok()
 }
 
 /// The MUD URL that a member spells.

@@ -37,10 +37,7 @@ fn read_number(reader: &mut FieldReader<'_>, width: u8) -> Option<u64>
     requires { IsWidth width }
     ensures { MatchOption result (number_in width reader.old ≡ None) (λ n. number_in width reader.old ≡ Some (n, reader.new)) }
 {
-    match reader.number(width) {
-        Ok(number) => Some(number),
-        Err(_) => None,
-    }
+    reader.number(width).ok()
 }
 
 /// Reads a string.
@@ -48,10 +45,7 @@ fn read_number(reader: &mut FieldReader<'_>, width: u8) -> Option<u64>
 fn read_string<'a>(reader: &mut FieldReader<'a>) -> Option<&'a [u8]>
     ensures { MatchOption result (string_in reader.old ≡ None) (λ s. string_in reader.old ≡ Some (s.now, reader.new)) }
 {
-    match reader.string() {
-        Ok(string) => Some(string),
-        Err(_) => None,
-    }
+    reader.string().ok()
 }
 
 /// Reads when a file was fetched, and its octets.
@@ -127,10 +121,7 @@ fn read_candidate_part<'a>(reader: &mut FieldReader<'a>) -> Option<Option<Part<'
 fn read_version(reader: &mut FieldReader<'_>) -> Option<u8>
     ensures { MatchOption result (version_in reader.old ≡ None) (λ n. version_in reader.old ≡ Some (n, reader.new)) }
 {
-    match reader.version() {
-        Ok(version) => Some(version),
-        Err(_) => None,
-    }
+    reader.version().ok()
 }
 
 /// Whether no octet is left.

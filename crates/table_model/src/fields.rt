@@ -62,10 +62,7 @@ fn read_number(reader: &mut FieldReader<'_>, width: u8) -> Option<u64>
     ensures value { MatchOption result (number_in width reader.old ≡ None) (λ n. number_in width reader.old ≡ Some (n, reader.new)) }
     ensures range { IfSome result (λ n. n < 256 ^ width) }
 {
-    match reader.number(width) {
-        Ok(number) => Some(number),
-        Err(_) => None,
-    }
+    reader.number(width).ok()
 }
 
 /// Reads an address.

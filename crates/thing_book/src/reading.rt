@@ -39,10 +39,7 @@ fn read_number(reader: &mut FieldReader<'_>, width: u8) -> Option<u64>
     ensures value { MatchOption result (number_in width reader.old ≡ None) (λ n. number_in width reader.old ≡ Some (n, reader.new)) }
     ensures range { IfSome result (λ n. n < 256 ^ width) }
 {
-    match reader.number(width) {
-        Ok(number) => Some(number),
-        Err(_) => None,
-    }
+    reader.number(width).ok()
 }
 
 /// Reads the version, 1 or 2.
@@ -50,10 +47,7 @@ fn read_number(reader: &mut FieldReader<'_>, width: u8) -> Option<u64>
 fn read_version(reader: &mut FieldReader<'_>) -> Option<u8>
     ensures { MatchOption result (version_to_in 2 reader.old ≡ None) (λ version. version_to_in 2 reader.old ≡ Some (version, reader.new)) }
 {
-    match reader.version_to(VERSION) {
-        Ok(version) => Some(version),
-        Err(_) => None,
-    }
+    reader.version_to(VERSION).ok()
 }
 
 /// Reads a string.
@@ -61,20 +55,14 @@ fn read_version(reader: &mut FieldReader<'_>) -> Option<u8>
 fn read_text<'a>(reader: &mut FieldReader<'a>) -> Option<&'a [u8]>
     ensures { MatchOption result (string_in reader.old ≡ None) (λ text. string_in reader.old ≡ Some (text.now, reader.new)) }
 {
-    match reader.string() {
-        Ok(text) => Some(text),
-        Err(_) => None,
-    }
+    reader.string().ok()
 }
 
 /// Reads the count of a list.
 fn read_count(reader: &mut FieldReader<'_>) -> Option<u16>
     ensures { MatchOption result (result_ok (list_at reader.old) ≡ None) (λ count. result_ok (list_at reader.old) ≡ Some (count, reader.new)) }
 {
-    match reader.list() {
-        Ok(count) => Some(count),
-        Err(_) => None,
-    }
+    reader.list().ok()
 }
 
 /// Whether nothing is left.

@@ -113,10 +113,7 @@ pub(crate) fn host_where_there(spot: Spot<'_>) -> Result<Option<Bytes>, FileFaul
 fn model_in(text: &str) -> Option<MudUrl>
     ensures { result ≡ spec.model_in text.now }
 {
-    match mud_url(text.as_bytes()) {
-        Ok(url) => Some(url),
-        Err(_) => None,
-    }
+    mud_url(text.as_bytes()).ok()
 }
 
 /// A MUD URL, where it is there.

@@ -133,7 +133,10 @@ fn found_in(numbers: &[u64], number: u64) -> Option<usize>
     ensures found { IfSome result (λ i. (i < length numbers.now) × (slice_index numbers.now i ≡ number)) }
     ensures none { IfNone result ((k : ℕ) → k < length numbers.now → slice_index numbers.now k ≢ number) }
 {
-    numbers.binary_search(&number).ok()
+    match numbers.binary_search(&number) {
+        Ok(index) => Some(index),
+        Err(_) => None,
+    }
 }
 
 /// A hardware address has six octets.
